@@ -1,0 +1,5 @@
+pub mod Cases
+pub mod Table
+pub mod MoreRuns
+pub mod ListLaws
+pub mod CellLaws

@@ -1,0 +1,56 @@
+-- Lists all of whose elements have a property, and the words of lists of goals put together.
+use mathlib.Core.Path.{_≡_, refl}
+use mathlib.Core.List.{List, [], _∷_, _++_, map}
+use Prim.Native.Nat.{_+_}
+use native.Mathlib.Omega.{arith}
+use lib.ListN.{length}
+use Rattle.rules.specs.Syntax.{Goal}
+use Rattle.rules.specs.Goals.{Marked, wordsOf, markedWords, unmarked}
+use Rattle.rules.specs.WellFormed.{All}
+
+module _ {ℓ} {A : Type ℓ} (P : A → Type 0) where
+  pub all-append : (xs ys : List A) → All P xs → All P ys → All P (xs ++ ys)
+  all-append [] ys a b = b
+  all-append (x ∷ xs) ys a b = (a .0, all-append xs ys (a .1) b)
+
+  pub all-split : (xs ys : List A) → All P (xs ++ ys) → All P xs × All P ys
+  all-split [] ys a = (tt, a)
+  all-split (x ∷ xs) ys a = let r = all-split xs ys (a .1) in ((a .0, r .0), r .1)
+
+  pub all-snoc : (xs : List A) (y : A) → All P xs → P y → All P (xs ++ (y ∷ []))
+  all-snoc xs y a p = all-append xs (y ∷ []) a (p, tt)
+
+  -- A property that holds of everything.
+  pub all-of : ((x : A) → P x) → (xs : List A) → All P xs
+  all-of h [] = tt
+  all-of h (x ∷ xs) = (h x, all-of h xs)
+
+-- A property that follows from another.
+pub all-weaken {ℓ} : {A : Type ℓ} (P Q : A → Type 0) → ((x : A) → P x → Q x) → (xs : List A) → All P xs → All Q xs
+all-weaken P Q h [] a = tt
+all-weaken P Q h (x ∷ xs) a = (h x (a .0), all-weaken P Q h xs (a .1))
+
+pub all-both {ℓ} : {A : Type ℓ} (P Q : A → Type 0) (xs : List A) → All P xs → All Q xs → All (λ x. P x × Q x) xs
+all-both P Q [] a b = tt
+all-both P Q (x ∷ xs) a b = ((a .0, b .0), all-both P Q xs (a .1) (b .1))
+
+pub all-map {ℓ κ} : {A : Type ℓ} {B : Type κ} (P : B → Type 0) (f : A → B) (xs : List A) → All (λ x. P (f x)) xs → All P (map f xs)
+all-map P f [] a = tt
+all-map P f (x ∷ xs) a = (a .0, all-map P f xs (a .1))
+
+-- The words that goals take.
+pub words-append : (gs hs : List Goal) → wordsOf (gs ++ hs) ≡ wordsOf gs + wordsOf hs
+words-append [] hs = omega arith
+words-append (g ∷ gs) hs = omega (arith, words-append gs hs)
+
+pub marked-append : (ms ns : List Marked) → markedWords (ms ++ ns) ≡ markedWords ms + markedWords ns
+marked-append [] ns = omega arith
+marked-append (m ∷ ms) ns = omega (arith, marked-append ms ns)
+
+pub words-unmarked : (gs : List Goal) → markedWords (unmarked gs) ≡ wordsOf gs
+words-unmarked [] = refl
+words-unmarked (g ∷ gs) = omega (arith, words-unmarked gs)
+
+pub length-unmarked : (gs : List Goal) → length (unmarked gs) ≡ length gs
+length-unmarked [] = refl
+length-unmarked (g ∷ gs) = omega (arith, length-unmarked gs)

@@ -1,0 +1,100 @@
+-- Runs for what the starred ones do not tell apart, shown about the written rules by computing them.
+use Prim.Native.Nat.{ℕ, zero, suc}
+use mathlib.Core.Path.{_≡_, refl}
+use mathlib.Core.List.{List, [], _∷_, map}
+use Rattle.rules.specs.Goals.{floundered, undecided, oversized}
+use Rattle.rules.specs.Evaluation.{finished, budget, answers, store}
+use Rattle.rules.specs.Run.{answersAfter, storeStart}
+use Rattle.rules.specs.All.{rules}
+use Rattle.rules.proofs.Cases.{Case, Line, case, shows, actual, outcomeOf, wordsOfRun}
+use Rattle.rules.proofs.Table.{deckL}
+
+-- The cells of f(.. f(a) ..), with n times the functor f, which has number 1; a has number 0.
+abbrev pub nested : ℕ → List ℕ
+nested zero = 0 ∷ []
+nested (suc n) = 1 ∷ nested n
+
+-- Clause p if not p. Symbol: p.
+abbrev pub deckP : List ℕ
+deckP =
+    1 ∷ 1 ∷ 8 ∷ 1 ∷ 9 ∷ 2 ∷ 10 ∷ 12
+    ∷ 256
+    ∷ 0
+    ∷ 0 ∷ 16384 ∷ []
+
+-- Clause r(f(x)). Symbols: f, r.
+abbrev pub deckR : List ℕ
+deckR =
+    1 ∷ 2 ∷ 8 ∷ 1 ∷ 10 ∷ 3 ∷ 11 ∷ 14
+    ∷ 1 ∷ 257
+    ∷ 0
+    ∷ 1 ∷ 0 ∷ 32768 ∷ []
+
+-- Clauses p(x) if q(x, .., x), twelve times x; p(x). Symbols: a, f, p, q.
+abbrev pub deckO : List ℕ
+deckO =
+    1 ∷ 4 ∷ 8 ∷ 2 ∷ 12 ∷ 17 ∷ 14 ∷ 31
+    ∷ 0 ∷ 1 ∷ 257 ∷ 268
+    ∷ 0 ∷ 15
+    ∷ 2 ∷ 32768 ∷ 3 ∷ 32768 ∷ 32768 ∷ 32768 ∷ 32768 ∷ 32768 ∷ 32768 ∷ 32768 ∷ 32768 ∷ 32768 ∷ 32768 ∷ 32768 ∷ 32768 ∷ 2 ∷ 32768 ∷ []
+
+-- Clauses e(a), three times; p(x), twice; h(x) if e(y) and g(x). Symbols: a, f, e, g, p, h.
+abbrev pub deckE : List ℕ
+deckE =
+    1 ∷ 6 ∷ 8 ∷ 6 ∷ 14 ∷ 16 ∷ 20 ∷ 36
+    ∷ 0 ∷ 1 ∷ 257 ∷ 257 ∷ 257 ∷ 257
+    ∷ 0 ∷ 2 ∷ 4 ∷ 6 ∷ 8 ∷ 10
+    ∷ 2 ∷ 0 ∷ 2 ∷ 0 ∷ 2 ∷ 0 ∷ 4 ∷ 32768 ∷ 4 ∷ 32768 ∷ 5 ∷ 32768 ∷ 2 ∷ 32769 ∷ 3 ∷ 32768 ∷ []
+
+-- Clauses p(x) if not r(y); p(x) if s(a); s(a), twice. Symbols: a, f, p, r, s, g.
+abbrev pub deckK : List ℕ
+deckK =
+    1 ∷ 6 ∷ 8 ∷ 4 ∷ 14 ∷ 12 ∷ 18 ∷ 30
+    ∷ 0 ∷ 1 ∷ 257 ∷ 257 ∷ 257 ∷ 258
+    ∷ 0 ∷ 4 ∷ 8 ∷ 10
+    ∷ 2 ∷ 32768 ∷ 16387 ∷ 32769 ∷ 2 ∷ 32768 ∷ 4 ∷ 0 ∷ 4 ∷ 0 ∷ 4 ∷ 0 ∷ []
+
+-- Clauses a if not b; b if not c; c. Symbols: a, b, c.
+abbrev pub deckN : List ℕ
+deckN =
+    1 ∷ 3 ∷ 8 ∷ 3 ∷ 11 ∷ 5 ∷ 14 ∷ 19
+    ∷ 256 ∷ 256 ∷ 256
+    ∷ 0 ∷ 2 ∷ 4
+    ∷ 0 ∷ 16385 ∷ 1 ∷ 16386 ∷ 2 ∷ []
+
+-- p if not p: level 32 parks with mark 4, and each level above it with mark 2.
+-- r(y) has the answer f(x): the clause's variable is another than the query's.
+-- p(f(..)) with a child over 1,024 words and a sister that would be an answer: the goal itself is parked.
+-- Two ends and room for one: stop "answers".
+-- Three children of 405 words and a store of 1,024: stop "store".
+-- A parked goal of 348 words, and children of 692 words together: only the parked words make it too much.
+-- Two pending goals of 483 words, and a new level's goal of 483 words.
+-- not h(f(..)): the new level stops with "store" in its second step, and the goal is still pending.
+-- a if not b, b if not c, c: finished in 7 steps; a budget of 5 ends on the second level below.
+abbrev pub more : List Case
+more =
+    case deckP (0 ∷ []) 100000 (shows finished 66 0 0 (undecided ∷ []))
+    ∷ case deckR (1 ∷ 32768 ∷ []) 100000 (shows finished 2 1 0 [])
+    ∷ case deckO (2 ∷ nested 100) 100000 (shows finished 1 0 0 (oversized ∷ []))
+    ∷ record { deck = deckL; query = 2 ∷ 32768 ∷ []; budget = 9; answerRoom = 3; storeSize = 1024; expected = shows answers 2 1 1 [] }
+    ∷ record { deck = deckE; query = 2 ∷ 32768 ∷ 3 ∷ nested 400; budget = 9; answerRoom = 3; storeSize = 1024; expected = shows store 0 0 1 [] }
+    ∷ record { deck = deckK; query = 2 ∷ 0 ∷ 16389 ∷ 32768 ∷ nested 340; budget = 9; answerRoom = 0; storeSize = 1024; expected = shows store 2 0 1 (floundered ∷ []) }
+    ∷ record { deck = deckE; query = 4 ∷ 0 ∷ 16387 ∷ nested 479; budget = 9; answerRoom = 0; storeSize = 1024; expected = shows store 1 0 2 [] }
+    ∷ record { deck = deckE; query = 16389 ∷ nested 340; budget = 9; answerRoom = 9; storeSize = 1024; expected = shows store 2 0 1 [] }
+    ∷ case deckN (0 ∷ []) 7 (shows finished 7 1 0 [])
+    ∷ case deckN (0 ∷ []) 5 (shows budget 5 0 1 [])
+    ∷ []
+
+pub more-runs : map actual more ≡ map (λ c. c .expected) more
+unfolding rules
+more-runs = refl
+
+-- Where the budget ends on a deeper level, the level 0 goal is as it was, its negative literal included.
+pub cut-goal : wordsOfRun storeStart (outcomeOf (case deckN (0 ∷ []) 5 (shows budget 5 0 1 []))) ≡ 3 ∷ 0 ∷ 16385 ∷ []
+unfolding rules
+cut-goal = refl
+
+-- The answer f(x) of r(y), with its variable.
+pub fresh-answer : wordsOfRun (λ o. answersAfter o []) (outcomeOf (case deckR (1 ∷ 32768 ∷ []) 9 (shows finished 2 1 0 []))) ≡ 4 ∷ 2 ∷ 0 ∷ 32768 ∷ []
+unfolding rules
+fresh-answer = refl

@@ -1,0 +1,38 @@
+-- Demand 3 as a statement about the words in the slices (document 01, "What the completed deck says").
+use Prim.Native.Nat.{ℕ, _+_}
+use mathlib.Core.Path.{_≡_}
+use mathlib.Core.Logic.{_↔_}
+use mathlib.Core.List.{List, _++_}
+use mathlib.Core.Option.{Option, some}
+use lib.ListN.{length}
+use Rattle.rules.specs.Syntax.{Literal, Deck}
+use Rattle.rules.specs.Refusals.{accepted}
+use Rattle.rules.specs.Decks.{openDeck, readQuery}
+use Rattle.rules.specs.Goals.{Marked, queryVariables, readGoals}
+use Rattle.rules.specs.Evaluation.{finished}
+use Rattle.rules.specs.Run.{Report, Slices}
+use Rattle.rules.specs.Meaning.{Inds, Interpretation, Satisfies, individuals, QueryHolds, SomeCovers}
+
+-- The listed answers are the goals at the start of the answer list, as many as the returned number of answers.
+-- The goals left open are those at the start of the store, as many as the returned numbers of pending and parked goals together.
+pub record Read (deck : Deck) (r : Report) (exit : Slices) (listed leftOpen : List Marked) : Type 0 where
+  pub answers : readGoals (deck .symbols) (r .answers) (exit .answers) ≡ some listed
+  pub store : readGoals (deck .symbols) (r .pending + r .parked) (exit .store) ≡ some leftOpen
+
+-- In each interpretation that satisfies the completed deck, for each choice, the query holds exactly when a listed answer or a goal
+-- left open covers that choice.
+abbrev pub Covered : Deck → List Literal → List Marked → List Marked → Type 1
+Covered deck query listed leftOpen =
+    (I : Interpretation) → Satisfies I deck → (choice : Inds) → individuals choice ≡ length (queryVariables query)
+    → QueryHolds I query choice ↔ SomeCovers I choice (listed ++ leftOpen)
+
+-- Demand 3, of a deck's and a query's words, what the run returned and the words that it left.
+pub record Demand3 (deckWords queryWords : List ℕ) (r : Report) (exit : Slices) : Type 1 where
+  pub deck : Deck
+  pub query : List Literal
+  pub listed : List Marked
+  pub leftOpen : List Marked
+  pub opens : openDeck deckWords ≡ accepted deck
+  pub asks : readQuery deck queryWords ≡ accepted query
+  pub reads : Read deck r exit listed leftOpen
+  pub covered : Covered deck query listed leftOpen

@@ -1,0 +1,325 @@
+//! The evaluation with negation as failure, as a stack of levels.
+
+use crate::deck::Deck;
+use crate::goals::{Goal, Mark, Resolvent, MOST_GOAL_WORDS};
+use crate::query::Query;
+
+#[derive(Clone, Copy, Debug, PartialEq, Eq)]
+pub enum Stop {
+    Finished = 0,
+    Budget = 1,
+    Answers = 2,
+    Store = 3,
+}
+
+/// The limits the caller sets.
+#[derive(Clone, Copy, Debug)]
+pub struct Limits {
+    pub budget: u32,
+    pub answer_words: usize,
+    pub store_words: usize,
+}
+
+/// What an accepted run returns; each goal as its words.
+#[derive(Clone, Debug)]
+pub struct Outcome {
+    pub stop: Stop,
+    pub steps: u32,
+    pub answers: Vec<Vec<u16>>,
+    pub pending: Vec<Vec<u16>>,
+    pub parked: Vec<Vec<u16>>,
+    pub watch: Watch,
+}
+
+/// Seen on the way; no part of the result.
+#[derive(Clone, Debug, Default)]
+pub struct Watch {
+    /// Most words held after a step.
+    pub most_held: usize,
+    /// Words that a step not taken for want of store would have held.
+    pub refused_held: usize,
+    pub deepest: usize,
+    /// Longest goal, in words.
+    pub longest: usize,
+    /// Goals parked, by mark: at level 0, and deeper.
+    pub parked: [u32; 5],
+    pub parked_deeper: [u32; 5],
+    /// Inner levels closed: succeeded, finished clean, finished with parked.
+    pub closed: [u32; 3],
+}
+
+struct Level {
+    /// The first goal stands last.
+    pending: Vec<Goal>,
+    /// Something was parked here.
+    parked: bool,
+}
+
+/// What the next step would do.
+enum Plan {
+    Answer,
+    Succeed,
+    Park(Mark),
+    /// The goals are complete only if their words fit.
+    Replace { derived: Vec<Goal>, words: usize },
+    Descend(Goal),
+}
+
+enum Closing {
+    Succeeded,
+    Clean,
+    Undecided,
+}
+
+struct Evaluation<'a> {
+    deck: &'a Deck,
+    limits: Limits,
+    levels: Vec<Level>,
+    /// Words of level 0's goals and of all pending goals deeper.
+    held: usize,
+    steps: u32,
+    answers: Vec<Vec<u16>>,
+    answered_words: usize,
+    parked: Vec<(Goal, Mark)>,
+    watch: Watch,
+}
+
+const DEEPEST: usize = 32;
+
+pub fn evaluate(deck: &Deck, query: Query, limits: Limits) -> Outcome {
+    let first = Goal::first(query);
+    let mut evaluation = Evaluation {
+        deck,
+        limits,
+        levels: Vec::new(),
+        held: 0,
+        steps: 0,
+        answers: Vec::new(),
+        answered_words: 0,
+        parked: Vec::new(),
+        watch: Watch::default(),
+    };
+    evaluation.start_level(first);
+    let stop = evaluation.work();
+    evaluation.outcome(stop)
+}
+
+impl Evaluation<'_> {
+    fn work(&mut self) -> Stop {
+        loop {
+            if self.top().pending.is_empty() {
+                if self.depth() == 0 {
+                    return Stop::Finished;
+                }
+                self.close_finished();
+                continue;
+            }
+            if self.steps == self.limits.budget {
+                return Stop::Budget;
+            }
+            let plan = self.plan();
+            if matches!(plan, Plan::Answer) && !self.answer_fits() {
+                return Stop::Answers;
+            }
+            let held = self.held_after(&plan);
+            if held > self.limits.store_words {
+                self.watch.refused_held = held;
+                return Stop::Store;
+            }
+            self.steps += 1;
+            self.take(plan);
+            debug_assert!(self.held == self.count_held());
+            self.watch.most_held = self.watch.most_held.max(held);
+        }
+    }
+
+    fn depth(&self) -> usize {
+        self.levels.len() - 1
+    }
+
+    fn top(&self) -> &Level {
+        self.levels.last().expect("a level is under way")
+    }
+
+    fn top_mut(&mut self) -> &mut Level {
+        self.levels.last_mut().expect("a level is under way")
+    }
+
+    fn first(&self) -> &Goal {
+        self.top().pending.last().expect("a goal is pending")
+    }
+
+    fn plan(&self) -> Plan {
+        let goal = self.first();
+        let level = self.depth();
+        if goal.literals.is_empty() {
+            return if level == 0 { Plan::Answer } else { Plan::Succeed };
+        }
+        let Some(at) = goal.select() else {
+            return Plan::Park(Mark::Floundered);
+        };
+        let literal = &goal.literals[at];
+        if !literal.negated {
+            self.resolve(goal, at)
+        } else if level == DEEPEST {
+            Plan::Park(Mark::Deep)
+        } else {
+            Plan::Descend(Goal::inner(&literal.atom))
+        }
+    }
+
+    /// All resolvents of the selected literal; one too long parks the goal.
+    fn resolve(&self, goal: &Goal, at: usize) -> Plan {
+        let room = self.limits.store_words + goal.words - self.held;
+        let predicate = goal.literals[at].atom.symbol as usize;
+        let mut derived = Vec::new();
+        let mut words = 0;
+        for number in &self.deck.about[predicate] {
+            let clause = &self.deck.clauses[*number];
+            let Some(resolvent) = Resolvent::new(goal, at, clause) else {
+                continue;
+            };
+            let length = resolvent.words();
+            if length > MOST_GOAL_WORDS {
+                return Plan::Park(Mark::Oversized);
+            }
+            words += length;
+            if words <= room {
+                derived.push(resolvent.write_out());
+            }
+        }
+        Plan::Replace { derived, words }
+    }
+
+    fn answer_fits(&self) -> bool {
+        self.answered_words + self.first().words <= self.limits.answer_words
+    }
+
+    fn held_after(&self, plan: &Plan) -> usize {
+        let goal = self.first().words;
+        match plan {
+            Plan::Answer | Plan::Succeed => self.held - goal,
+            Plan::Park(_) if self.depth() == 0 => self.held,
+            Plan::Park(_) => self.held - goal,
+            Plan::Replace { words, .. } => self.held - goal + words,
+            Plan::Descend(inner) => self.held + inner.words,
+        }
+    }
+
+    fn take(&mut self, plan: Plan) {
+        match plan {
+            Plan::Answer => self.answer(),
+            Plan::Succeed => self.close(Closing::Succeeded),
+            Plan::Park(mark) => self.park(mark),
+            Plan::Replace { derived, .. } => self.replace(derived),
+            Plan::Descend(inner) => self.start_level(inner),
+        }
+    }
+
+    fn start_level(&mut self, goal: Goal) {
+        self.held += goal.words;
+        self.watch.longest = self.watch.longest.max(goal.words);
+        self.levels.push(Level {
+            pending: vec![goal],
+            parked: false,
+        });
+        self.watch.deepest = self.watch.deepest.max(self.depth());
+    }
+
+    /// Takes the first goal off the pending list.
+    fn remove_first(&mut self) -> Goal {
+        let goal = self.top_mut().pending.pop().expect("a goal is pending");
+        self.held -= goal.words;
+        goal
+    }
+
+    fn answer(&mut self) {
+        let goal = self.remove_first();
+        self.answered_words += goal.words;
+        self.answers.push(goal.to_words(Mark::Pending));
+    }
+
+    fn park(&mut self, mark: Mark) {
+        let goal = self.remove_first();
+        self.top_mut().parked = true;
+        if self.depth() == 0 {
+            self.watch.parked[mark as usize] += 1;
+            self.held += goal.words;
+            self.parked.push((goal, mark));
+        } else {
+            self.watch.parked_deeper[mark as usize] += 1;
+        }
+    }
+
+    fn replace(&mut self, derived: Vec<Goal>) {
+        self.remove_first();
+        for goal in derived.into_iter().rev() {
+            self.held += goal.words;
+            self.watch.longest = self.watch.longest.max(goal.words);
+            self.top_mut().pending.push(goal);
+        }
+    }
+
+    fn close_finished(&mut self) {
+        if self.top().parked {
+            self.close(Closing::Undecided);
+        } else {
+            self.close(Closing::Clean);
+        }
+    }
+
+    /// Ends the deepest level and settles the literal that began it.
+    fn close(&mut self, closing: Closing) {
+        let level = self.levels.pop().expect("a level is under way");
+        self.held -= level.pending.iter().map(|goal| goal.words).sum::<usize>();
+        self.watch.closed[match closing {
+            Closing::Succeeded => 0,
+            Closing::Clean => 1,
+            Closing::Undecided => 2,
+        }] += 1;
+        match closing {
+            Closing::Succeeded => drop(self.remove_first()),
+            Closing::Undecided => self.park(Mark::Undecided),
+            Closing::Clean => {
+                let mut goal = self.remove_first();
+                goal.drop_selected();
+                self.held += goal.words;
+                self.top_mut().pending.push(goal);
+            }
+        }
+    }
+
+    /// Words held, counted afresh.
+    fn count_held(&self) -> usize {
+        let pending = self.levels.iter().flat_map(|level| &level.pending);
+        let parked = self.parked.iter().map(|(goal, _)| goal);
+        pending.chain(parked).map(|goal| goal.words).sum()
+    }
+
+    fn outcome(self, stop: Stop) -> Outcome {
+        let pending = self.levels[0].pending.iter().rev();
+        let parked = self.parked.iter();
+        Outcome {
+            stop,
+            steps: self.steps,
+            pending: pending.map(|goal| goal.to_words(Mark::Pending)).collect(),
+            parked: parked.map(|(goal, mark)| goal.to_words(*mark)).collect(),
+            answers: self.answers,
+            watch: self.watch,
+        }
+    }
+}
+
+impl Outcome {
+    /// The words at the start of the answer list.
+    pub fn answer_list(&self) -> Vec<u16> {
+        self.answers.concat()
+    }
+
+    /// The words at the start of the store.
+    pub fn store_start(&self) -> Vec<u16> {
+        let mut words = self.pending.concat();
+        words.extend(self.parked.concat());
+        words
+    }
+}

@@ -1,0 +1,176 @@
+//! Another engine held against this evaluator, case by case.
+//!
+//! The trait has the shape of the engine's calls from C: `leads_open`,
+//! `leads_check` and `leads_run`, with the lent buffers as slices.
+
+use crate::case::Case;
+use crate::evaluation::Outcome;
+
+/// The numbers an accepted run returns; `stop` is 0 finished, 1 budget,
+/// 2 answers, 3 store.
+#[derive(Clone, Copy, Debug, Default, PartialEq, Eq)]
+pub struct Report {
+    pub stop: u32,
+    pub steps: u32,
+    pub answers: u64,
+    pub pending: u32,
+    pub parked: u32,
+}
+
+/// The buffers lent to a run.
+pub struct Lent<'a> {
+    pub answers: &'a mut [u16],
+    pub store: &'a mut [u16],
+    pub scratch: &'a mut [u16],
+}
+
+pub trait Engine {
+    fn open(&self, deck: &[u16]) -> u32;
+    fn check(&self, deck: &[u16], query: &[u16]) -> u32;
+    /// 0 and the report filled in, or the refusal's number.
+    fn run(
+        &self,
+        deck: &[u16],
+        query: &[u16],
+        budget: u32,
+        lent: Lent<'_>,
+        report: &mut Report,
+    ) -> u32;
+}
+
+/// This evaluator behind the same calls.
+pub struct Second;
+
+impl Engine for Second {
+    fn open(&self, deck: &[u16]) -> u32 {
+        crate::open(deck)
+    }
+
+    fn check(&self, deck: &[u16], query: &[u16]) -> u32 {
+        crate::check(deck, query)
+    }
+
+    fn run(
+        &self,
+        deck: &[u16],
+        query: &[u16],
+        budget: u32,
+        lent: Lent<'_>,
+        report: &mut Report,
+    ) -> u32 {
+        let sizes = (lent.answers.len(), lent.store.len(), lent.scratch.len());
+        match crate::run(deck, query, budget, sizes.0, sizes.1, sizes.2) {
+            Err(number) => number,
+            Ok(outcome) => {
+                *report = report_of(&outcome);
+                put(lent.answers, &outcome.answer_list());
+                put(lent.store, &outcome.store_start());
+                0
+            }
+        }
+    }
+}
+
+fn put(buffer: &mut [u16], words: &[u16]) {
+    buffer[..words.len()].copy_from_slice(words);
+}
+
+fn report_of(outcome: &Outcome) -> Report {
+    Report {
+        stop: outcome.stop as u32,
+        steps: outcome.steps,
+        answers: outcome.answers.len() as u64,
+        pending: outcome.pending.len() as u32,
+        parked: outcome.parked.len() as u32,
+    }
+}
+
+/// A buffer filled with a pattern, with guard words on both sides.
+struct Guarded {
+    words: Vec<u16>,
+    salt: u16,
+}
+
+const GUARD: usize = 32;
+
+impl Guarded {
+    fn new(length: usize, salt: u16) -> Guarded {
+        let words = (0..length + 2 * GUARD).map(|at| pattern(at, salt));
+        Guarded {
+            words: words.collect(),
+            salt,
+        }
+    }
+
+    fn lent(&mut self) -> &mut [u16] {
+        let end = self.words.len() - GUARD;
+        &mut self.words[GUARD..end]
+    }
+
+    /// Starts with these words, and is as it was from `untouched` on.
+    fn holds(&self, name: &str, start: &[u16], untouched: usize) -> Result<(), String> {
+        let from = GUARD;
+        let found = &self.words[from..self.words.len() - GUARD];
+        if found.get(..start.len()) != Some(start) {
+            let found = &found[..start.len().min(found.len())];
+            return Err(format!("{name}: starts {found:?}, expected {start:?}"));
+        }
+        let length = found.len();
+        for at in (0..GUARD).chain(GUARD + untouched..length + 2 * GUARD) {
+            if self.words[at] != pattern(at, self.salt) {
+                let place = at as isize - GUARD as isize;
+                return Err(format!("{name}: word {place} of {length} was changed"));
+            }
+        }
+        Ok(())
+    }
+}
+
+fn pattern(at: usize, salt: u16) -> u16 {
+    (at as u16).wrapping_mul(40_503) ^ salt
+}
+
+/// Holds an engine's three calls against this evaluator.
+pub fn judge(engine: &dyn Engine, case: &Case) -> Result<(), String> {
+    let opened = engine.open(&case.deck);
+    same("open", &opened, &crate::open(&case.deck))?;
+    let checked = engine.check(&case.deck, &case.query);
+    same("check", &checked, &crate::check(&case.deck, &case.query))?;
+    judge_run(engine, case)
+}
+
+fn judge_run(engine: &dyn Engine, case: &Case) -> Result<(), String> {
+    let mut answers = Guarded::new(case.answer_words, 0x5a5a);
+    let mut store = Guarded::new(case.store_words, 0x3c3c);
+    let mut scratch = Guarded::new(case.scratch_words, 0x6969);
+    let lent = Lent {
+        answers: answers.lent(),
+        store: store.lent(),
+        scratch: scratch.lent(),
+    };
+    let mut report = Report::default();
+    let number = engine.run(&case.deck, &case.query, case.budget, lent, &mut report);
+    match case.run() {
+        Err(expected) => {
+            same("refusal", &number, &expected)?;
+            answers.holds("answers", &[], 0)?;
+            store.holds("store", &[], 0)?;
+            scratch.holds("scratch", &[], 0)
+        }
+        Ok(outcome) => {
+            same("refusal", &number, &0)?;
+            same("report", &report, &report_of(&outcome))?;
+            let listed = outcome.answer_list();
+            answers.holds("answers", &listed, listed.len())?;
+            store.holds("store", &outcome.store_start(), case.store_words)?;
+            scratch.holds("scratch", &[], case.scratch_words)
+        }
+    }
+}
+
+fn same<T: PartialEq + std::fmt::Debug>(what: &str, found: &T, expected: &T) -> Result<(), String> {
+    if found == expected {
+        return Ok(());
+    }
+    Err(format!("{what}: {found:?}, expected {expected:?}"))
+}

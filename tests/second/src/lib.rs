@@ -1,0 +1,62 @@
+//! A second evaluator of the lead finder, written from document 01 alone.
+//!
+//! Terms are trees, unification works on classes of equal nodes, and levels
+//! are an explicit stack; so it shares no method with the engine it checks.
+
+pub mod case;
+pub mod deck;
+pub mod evaluation;
+pub mod goals;
+pub mod listing;
+pub mod query;
+pub mod reader;
+pub mod terms;
+pub mod unify;
+pub mod vectors;
+
+pub use case::Case;
+pub use evaluation::{Outcome, Stop};
+pub use listing::program;
+
+use evaluation::Limits;
+
+const STORE_WORDS: std::ops::RangeInclusive<usize> = 1_024..=65_535;
+const LEAST_SCRATCH: usize = 8_192;
+
+/// 0, or the refusal 1 to 5.
+pub fn open(deck: &[u16]) -> u32 {
+    deck::open(deck).err().unwrap_or(0)
+}
+
+/// 0, or the refusal 1 to 7.
+pub fn check(deck: &[u16], query: &[u16]) -> u32 {
+    deck::open(deck)
+        .and_then(|deck| query::read(&deck, query))
+        .err()
+        .unwrap_or(0)
+}
+
+/// The result of a run, or the refusal 1 to 9.
+pub fn run(
+    deck: &[u16],
+    query: &[u16],
+    budget: u32,
+    answer_words: usize,
+    store_words: usize,
+    scratch_words: usize,
+) -> Result<Outcome, u32> {
+    let deck = deck::open(deck)?;
+    let query = query::read(&deck, query)?;
+    if !STORE_WORDS.contains(&store_words) {
+        return Err(8);
+    }
+    if scratch_words < LEAST_SCRATCH {
+        return Err(9);
+    }
+    let limits = Limits {
+        budget,
+        answer_words,
+        store_words,
+    };
+    Ok(evaluation::evaluate(&deck, query, limits))
+}
