@@ -2,4 +2,16 @@ pub mod Cases
 pub mod Table
 pub mod MoreRuns
 pub mod ListLaws
+pub mod TermLaws
+pub mod UnifyLaws
 pub mod CellLaws
+pub mod GoalLaws
+pub mod DeckLaws
+pub mod NumberingLaws
+pub mod LevelLaws
+pub mod Keeps
+pub mod FormedLaws
+pub mod GoalsKept
+pub mod FirstGoal
+pub mod NextLaws
+pub mod SelectLaws

@@ -37,3 +37,8 @@ require n false = refused n
 unfoldable pub obtain : {A : Type 0} → Refusal → Option A → Checked A
 obtain n none = refused n
 obtain n (some a) = accepted a
+
+-- The number that a call of which only that is asked returns: 0 where all is accepted, else the refusal's.
+unfoldable pub checkedNumber : {A : Type 0} → Checked A → ℕ
+checkedNumber (refused n) = refusalNumber n
+checkedNumber (accepted a) = 0

@@ -1,0 +1,203 @@
+-- Demand 3 about the written rules: whatever the lists, the budget, the sizes and the stop, in each interpretation that satisfies the completed
+-- deck a choice is covered after the evaluation exactly if it was before; and a query holds for a choice exactly if something left covers it.
+use Prim.Native.Nat.{ℕ, zero, suc, _<_}
+use mathlib.Core.Path.{_≡_, refl, sym, _∙_, ap, ap₂, subst, transport}
+use mathlib.Core.Logic.{_↔_, _⊎_, inl, inr, ∥∥₁-elim, ∥∥₁-prop, ∥∥₁-map, Iff·trans}
+use mathlib.Core.HLevel.{Unit-prop, ×-prop, ¬-prop, ⊥-prop}
+use mathlib.Core.List.{List, [], _∷_, _++_, List·Memᴰ·not-nil, List·Memᴰ·cases-cons, append-nil}
+use native.Mathlib.Omega.{arith}
+use lib.ListN.{length, getD}
+use Rattle.rules.specs.Syntax.{Literal, pos, neg, Deck, Goal, varsLiterals}
+use Rattle.rules.specs.Goals.{Marked, unmarked, appearing, variables, queryVariables, firstGoal}
+use Rattle.rules.specs.Evaluation.{finished, Level, Place, zeroth, Ended, ended, succeeded, stopped, evaluateLevel, Outcome, stopOf, outcome, evaluate}
+use Rattle.rules.specs.Meaning.{Inds, inil, icons, Filling, evals, Atoms, Interpretation, Holds, Some, SatisfiesBy, Satisfies, individual, individuals, QueryHolds, CoversBy, Covers, SomeCovers}
+use Rattle.rules.specs.WellFormed.{InOrder}
+use Rattle.rules.proofs.Existence.{Existence, merely, atHand, Into, into-same, into-then, some-left, some-right, some-split}
+use Rattle.rules.proofs.NumberingLaws.{In, upTo, above, in-upTo, position-upTo, at-position, numbered-appearing, numbered-count, appearing-finds}
+use Rattle.rules.proofs.Values.{AgreeOn, holds-on}
+use Rattle.rules.proofs.LevelSound.{Open, inAnswers, inPending, inParked, level, EndedSound, level-sound}
+
+-- The listed answers, then the goals left open.
+abbrev pub remaining : Outcome → List Marked
+remaining o = unmarked (o .answers) ++ (unmarked (o .pending) ++ o .parked)
+
+-- Some goal of a list covers the choice, with the cover at hand.
+abbrev pub SomeCoversBy : Atoms → Inds → List Marked → Type 0
+SomeCoversBy I choice ms = Some (λ m. CoversBy I choice (m .goal)) ms
+
+module _ (I : Atoms) (choice : Inds) where
+  to-marked : (gs : List Goal) → Some (CoversBy I choice) gs → SomeCoversBy I choice (unmarked gs)
+  to-marked [] h = h
+  to-marked (g ∷ gs) (inl h) = inl h
+  to-marked (g ∷ gs) (inr h) = inr (to-marked gs h)
+
+  from-marked : (gs : List Goal) → SomeCoversBy I choice (unmarked gs) → Some (CoversBy I choice) gs
+  from-marked [] h = h
+  from-marked (g ∷ gs) (inl h) = inl h
+  from-marked (g ∷ gs) (inr h) = inr (from-marked gs h)
+
+  -- A level's goals as one list.
+  module _ (l : Level) where
+    abbrev C : Marked → Type 0
+    C m = CoversBy I choice (m .goal)
+
+    to-list : Open I choice l → SomeCoversBy I choice (unmarked (l .answers) ++ (unmarked (l .pending) ++ l .parked))
+    to-list (inAnswers h) = some-left C (unmarked (l .answers)) _ (to-marked (l .answers) h)
+    to-list (inPending h) = some-right C (unmarked (l .answers)) _ (some-left C (unmarked (l .pending)) (l .parked) (to-marked (l .pending) h))
+    to-list (inParked h) = some-right C (unmarked (l .answers)) _ (some-right C (unmarked (l .pending)) (l .parked) h)
+
+    from-list : SomeCoversBy I choice (unmarked (l .answers) ++ (unmarked (l .pending) ++ l .parked)) → Open I choice l
+    from-list h = elim (some-split C (unmarked (l .answers)) (unmarked (l .pending) ++ l .parked) h) [
+      | inl a ↦ inAnswers (from-marked (l .answers) a)
+      | inr k ↦ elim (some-split C (unmarked (l .pending)) (l .parked) k) [ inl b ↦ inPending (from-marked (l .pending) b) | inr c ↦ inParked c ]
+    ]
+
+-- THE EVALUATION, for both readings of "there is some".
+module _ (X : Existence) (I : Atoms) (deck : Deck) (sat : SatisfiesBy (X .M) I (deck .clauses)) (answerRoom storeSize : ℕ) (gs : List Goal) (ms : List Marked) (total : ℕ) where
+  pub record Evaluated (o : Outcome) : Type 0 where
+    pub covers : (choice : Inds) → Into X (SomeCoversBy I choice (unmarked gs ++ ms)) (SomeCoversBy I choice (remaining o))
+    pub emptied : o .stop ≡ finished → o .pending ≡ []
+
+  pub evaluated : Evaluated (evaluate deck answerRoom storeSize gs ms total)
+  unfolding evaluate outcome stopOf
+  evaluated =
+      go (evaluateLevel (deck .clauses) answerRoom storeSize 32 zeroth (level gs ms []) total)
+      (level-sound X I (deck .clauses) sat answerRoom storeSize 32 zeroth (level gs ms []) total)
+    where
+      go : (e : Ended) → EndedSound X I zeroth (level gs ms []) e → Evaluated (outcome total e)
+      go (ended succeeded l left) h = absurd h
+      go (ended (stopped s) l left) h = record {
+        covers = λ choice. (
+          λ k. X .bind (h .0 .0 choice .0 (from-list I choice (level gs ms []) k)) (λ o. X .unit (to-list I choice l o)),
+          λ k. to-list I choice (level gs ms []) (h .0 .0 choice .1 (from-list I choice l k)),
+        );
+        emptied = h .1;
+      }
+
+-- By mere existence.
+some-merely : (I : Interpretation) (choice : Inds) (ms : List Marked) → SomeCovers I choice ms ↔ ∥ SomeCoversBy (I .atoms) choice ms ∥₁
+unfolding SomeCovers Covers
+some-merely I choice ms = (λ h. ∥∥₁-elim h ∥∥₁-prop (gather ms), λ h. ∥∥₁-map h (spread ms))
+  where
+    gather : (ks : List Marked) → Some (λ m. ∥ CoversBy (I .atoms) choice (m .goal) ∥₁) ks → ∥ SomeCoversBy (I .atoms) choice ks ∥₁
+    gather [] h = absurd h
+    gather (k ∷ ks) (inl h) = ∥∥₁-map h inl
+    gather (k ∷ ks) (inr h) = ∥∥₁-map (gather ks h) inr
+
+    spread : (ks : List Marked) → SomeCoversBy (I .atoms) choice ks → Some (λ m. ∥ CoversBy (I .atoms) choice (m .goal) ∥₁) ks
+    spread [] h = absurd h
+    spread (k ∷ ks) (inl h) = inl ∣ h ∣₁
+    spread (k ∷ ks) (inr h) = inr (spread ks h)
+
+module _ (deck : Deck) (answerRoom storeSize : ℕ) (gs : List Goal) (ms : List Marked) (total : ℕ) where
+  abbrev o : Outcome
+  o = evaluate deck answerRoom storeSize gs ms total
+
+  -- In each interpretation that satisfies the completed deck, and for each choice, some goal covered the choice before exactly if some
+  -- answer or open goal covers it after.
+  pub evaluate-covers : (I : Interpretation) → Satisfies I deck → (choice : Inds) → SomeCovers I choice (unmarked gs ++ ms) ↔ SomeCovers I choice (remaining o)
+  unfolding Satisfies
+  evaluate-covers I sat choice =
+      let i = evaluated merely (I .atoms) deck sat answerRoom storeSize gs ms total .covers choice in
+      let before = some-merely I choice (unmarked gs ++ ms) in
+      let after = some-merely I choice (remaining o) in
+      (λ h. after .1 (∥∥₁-elim (before .0 h) ∥∥₁-prop (i .0)), λ h. before .1 (∥∥₁-map (after .0 h) (i .1)))
+
+  -- With the cover at hand, in a set of atoms in the wide sense.
+  pub evaluate-covers-by : (I : Atoms) → SatisfiesBy (λ A. A) I (deck .clauses) → (choice : Inds) → SomeCoversBy I choice (unmarked gs ++ ms) ↔ SomeCoversBy I choice (remaining o)
+  evaluate-covers-by I sat choice = evaluated atHand I deck sat answerRoom storeSize gs ms total .covers choice
+
+-- THE QUERY. Its first goal covers a choice exactly if it holds for it.
+inds-same : (us vs : Inds) → individuals us ≡ individuals vs → ((i : ℕ) → i < individuals us → individual us i ≡ individual vs i) → us ≡ vs
+inds-same inil inil c h = refl
+inds-same inil (icons v vs) c h = absurd (omega arith)
+inds-same (icons u us) inil c h = absurd (omega arith)
+inds-same (icons u us) (icons v vs) c h = ap₂ icons (h 0 (omega arith)) (inds-same us vs (omega arith) (λ i l. h (suc i) (omega arith)))
+
+module _ (ν : Filling) where
+  variables-count : (vs : List ℕ) → individuals (evals ν (variables vs)) ≡ length vs
+  unfolding variables
+  variables-count [] = refl
+  variables-count (v ∷ vs) = ap suc (variables-count vs)
+
+  variables-at : (vs : List ℕ) (i : ℕ) → i < length vs → individual (evals ν (variables vs)) i ≡ ν (getD vs i 0)
+  unfolding variables
+  variables-at [] i l = absurd (omega arith)
+  variables-at (v ∷ vs) zero l = refl
+  variables-at (v ∷ vs) (suc i) l = variables-at vs i (omega arith)
+
+variables-same : (ν μ : Filling) (vs : List ℕ) → evals ν (variables vs) ≡ evals μ (variables vs) → AgreeOn ν μ vs
+unfolding variables
+variables-same ν μ [] e v h = absurd (List·Memᴰ·not-nil h)
+variables-same ν μ (x ∷ xs) e v h = elim (List·Memᴰ·cases-cons h) [
+  | inl q ↦ (let a : ν x ≡ μ x = cc in ap ν q ∙ a ∙ ap μ (sym q))
+  | inr k ↦ variables-same ν μ xs (cc) v k
+]
+
+upTo-at : (i n : ℕ) → i < n → getD (upTo n) i 0 ≡ i
+upTo-at i n l = ap (λ j. getD (upTo n) j 0) (sym (position-upTo i n l)) ∙ at-position i (in-upTo i n l)
+
+module _ (query : List Literal) (ordered : InOrder (varsLiterals query)) (choice : Inds) (many : individuals choice ≡ length (queryVariables query)) where
+  -- The individuals of the choice, in order, are what it gives to the query's variables.
+  choice-listed : evals (individual choice) (variables (queryVariables query)) ≡ choice
+  unfolding queryVariables
+  choice-listed = inds-same _ choice (variables-count (individual choice) order ∙ sym many) (λ i l.
+      let k : i < length order = omega (arith, variables-count (individual choice) order) in
+      variables-at (individual choice) order i k ∙ ap (individual choice) (at i k))
+    where
+      order : List ℕ
+      order = appearing [] (varsLiterals query)
+
+      at : (i : ℕ) → i < length order → getD order i 0 ≡ i
+      at i l = rw (numbered-appearing (varsLiterals query) ordered) (upTo-at i (above (varsLiterals query)) (omega (arith, numbered-count (varsLiterals query) ordered)))
+
+  first-covers : (I : Atoms) → Holds I (individual choice) query ↔ CoversBy I choice (firstGoal query)
+  unfolding firstGoal queryVariables
+  first-covers I = (
+    λ h. (individual choice, choice-listed, h),
+    λ k.
+        let same : AgreeOn (k .0) (individual choice) (queryVariables query) = variables-same (k .0) (individual choice) (queryVariables query) (k .1 ∙ sym choice-listed) in
+        transport (holds-on I (k .0) (individual choice) query (λ v h. same v (appearing-finds v [] h))) (k .2),
+  )
+
+holds-prop : (I : Interpretation) (ν : Filling) (ls : List Literal) → IsProp (Holds (I .atoms) ν ls)
+holds-prop I ν [] = Unit-prop
+holds-prop I ν (pos p ts ∷ ls) = ×-prop (I .proposition p (evals ν ts)) (holds-prop I ν ls)
+holds-prop I ν (neg p ts ∷ ls) = ×-prop ¬-prop (holds-prop I ν ls)
+
+module _ (deck : Deck) (answerRoom storeSize : ℕ) (query : List Literal) (total : ℕ) where
+  abbrev pub asked : Outcome
+  asked = evaluate deck answerRoom storeSize (firstGoal query ∷ []) [] total
+
+  module _ (ordered : InOrder (varsLiterals query)) (choice : Inds) (many : individuals choice ≡ length (queryVariables query)) where
+    -- The query holds for the choice exactly if a listed answer or a goal left open covers it.
+    pub query-covers : (I : Interpretation) → Satisfies I deck → QueryHolds I query choice ↔ SomeCovers I choice (remaining asked)
+    unfolding QueryHolds
+    query-covers I sat =
+        let first = first-covers query ordered choice many (I .atoms) in
+        let i = evaluate-covers deck answerRoom storeSize (firstGoal query ∷ []) [] total I sat choice in
+        let alone = some-merely I choice (unmarked (firstGoal query ∷ []) ++ []) in
+        (λ h. i .0 (alone .1 ∣ inl (first .0 h) ∣₁), λ h. ∥∥₁-elim (alone .0 (i .1 h)) (holds-prop I (individual choice) query) (λ k. elim k [ inl c ↦ first .1 c | inr b ↦ absurd b ]))
+
+    pub query-covers-by : (I : Atoms) → SatisfiesBy (λ A. A) I (deck .clauses) → Holds I (individual choice) query ↔ SomeCoversBy I choice (remaining asked)
+    query-covers-by I sat =
+        let first = first-covers query ordered choice many I in
+        let i = evaluate-covers-by deck answerRoom storeSize (firstGoal query ∷ []) [] total I sat choice in
+        (λ h. i .0 (inl (first .0 h)), λ h. elim (i .1 h) [ inl c ↦ first .1 c | inr b ↦ absurd b ])
+
+    module _ (I : Interpretation) (sat : Satisfies I deck) (all : asked .stop ≡ finished) (nothing-parked : asked .parked ≡ []) where
+      -- Where a run finishes with nothing left open, every choice for which the query holds is covered by a listed answer.
+      pub finished-lists-all : QueryHolds I query choice → SomeCovers I choice (unmarked (asked .answers))
+      unfolding Satisfies
+      finished-lists-all h =
+          let e : asked .pending ≡ [] = evaluated merely (I .atoms) deck sat answerRoom storeSize (firstGoal query ∷ []) [] total .emptied all in
+          let k : SomeCovers I choice (remaining asked) = query-covers I sat .0 h in
+          let r : remaining asked ≡ unmarked (asked .answers) = rw (e, nothing-parked) (append-nil (unmarked (asked .answers))) in
+          subst (SomeCovers I choice) r k
+
+      -- Where it lists no answer either, the query does not hold.
+      pub no-means-none : asked .answers ≡ [] → ¬ QueryHolds I query choice
+      unfolding SomeCovers
+      no-means-none e h =
+          let k : SomeCovers I choice [] = rw e at (finished-lists-all h) in
+          ∥∥₁-elim k ⊥-prop (λ b. b)

@@ -1,0 +1,355 @@
+-- A level keeps what its goals cover, wherever it stops; one that succeeds shows its goal possible, one that finishes with nothing parked
+-- shows that it is not (Clark's theorem 2), so that a negative literal's step keeps the cover.
+use Prim.Native.Nat.{ℕ, zero, suc, _+_, _-_}
+use mathlib.Core.Path.{_≡_, refl, sym, _∙_, subst}
+use mathlib.Core.Logic.{_↔_, _≢_, _⊎_, inl, inr}
+use mathlib.Core.Bool.{Bool, true, false}
+use mathlib.Core.List.{List, [], _∷_, _++_, List·Memᴰ·not-nil}
+use native.Mathlib.Omega.{arith}
+use lib.Dec.{leb}
+use Rattle.rules.specs.Terms.{Terms, nil, varsTerms}
+use Rattle.rules.specs.Syntax.{Literal, pos, neg, Clause, Goal}
+use Rattle.rules.specs.Goals.{Mark, undecided, Marked, marked, goalWords, wordsOf}
+use Rattle.rules.specs.Resolution.{Selection, nothing, positive, negative, select, resolvents, anyOversized}
+use Rattle.rules.specs.Evaluation.{Stop, finished, budget, answers, store, Level, startLevel, withPending, withParked, withAnswer, Place, zeroth, deeper, held, Act, noLiterals, park, derive, decide, deriveAct, decideAct, selectedAct, literalsAct, actOf, Question, question, Next, halt, step, success, ask, answerStep, actStep, unlessOver, checkStore, Ending, succeeded, stopped, Ended, ended, Verdict, proved, refuted, unsettled, cut, Reply, reply, verdictOf, replyOf, close, proceed, decideBy, unasked, nextFrom, nextOf, turn, evaluateLevel}
+use Rattle.rules.specs.Meaning.{Ind, Inds, node, inil, Filling, evals, Atoms, Holds, Some, SatisfiesBy, CoversBy}
+use Rattle.rules.proofs.Existence.{Existence, Into, into-same, into-then, some-left, some-right, some-split}
+use Rattle.rules.proofs.SelectLaws.{Selected, select-selected}
+use Rattle.rules.proofs.Values.{evals-on, holds-append}
+use Rattle.rules.proofs.ResolventSound.{goalOf, resolvents-sound}
+
+-- A goal that covers some choice.
+abbrev pub Possible : Atoms → Goal → Type 0
+Possible I g = (choice : Inds) × CoversBy I choice g
+
+-- Some goal of a level covers the choice.
+pub data Open (I : Atoms) (choice : Inds) (l : Level) : Type 0 where
+  inAnswers : Some (CoversBy I choice) (l .answers) → Open I choice l
+  inPending : Some (CoversBy I choice) (l .pending) → Open I choice l
+  inParked : Some (λ m. CoversBy I choice (m .goal)) (l .parked) → Open I choice l
+
+abbrev pub level : List Goal → List Marked → List Goal → Level
+level gs ms as′ = record { pending = gs; parked = ms; answers = as′ }
+
+-- WHAT AN ACT SAYS OF ITS GOAL
+module _ (X : Existence) (I : Atoms) where
+  -- The goal has no literals; the derived goals cover what it covers; if the atom is true the goal covers nothing, and if it is false
+  -- the goal covers what it covers without the literal.
+  abbrev ActSound : Goal → Act → Type 0
+  ActSound g noLiterals = g .literals ≡ []
+  ActSound g (park m) = Unit {0}
+  ActSound g (derive ds) = (choice : Inds) → Into X (CoversBy I choice g) (Some (CoversBy I choice) ds)
+  ActSound g (decide p ts others) =
+      ((ν : Filling) → I p (evals ν ts) → ¬ Possible I g)
+      × (((ν : Filling) → ¬ I p (evals ν ts)) → (choice : Inds) → CoversBy I choice g ↔ CoversBy I choice (goalOf (g .answers) others))
+
+  -- A selected negative literal has no variables, so that its atom is one.
+  decide-sound :
+      (below : ℕ) (g : Goal) (before : List Literal) (p : ℕ) (ts : Terms) (after : List Literal) → Selected (g .literals) (negative before p ts after)
+      → ActSound g (decideAct below p ts (before ++ after))
+  unfolding decideAct
+  decide-sound zero g before p ts after s = tt
+  decide-sound (suc below) g before p ts after s = (
+    λ ν a k. parts (k .1 .0) (k .1 .2) .1 .0 (subst (I p) (one ν (k .1 .0)) a),
+    λ n choice. (
+      λ k. (k .0, k .1, holds-append I (k .0) before after .1 (parts (k .0) (k .2) .0, parts (k .0) (k .2) .1 .1)),
+      λ k.
+          let r = holds-append I (k .0) before after .0 (k .2) in
+          (k .0, k .1, subst (Holds I (k .0)) (sym (s .0)) (holds-append I (k .0) before (neg p ts ∷ after) .1 (r .0, (n (k .0), r .1)))),
+    ),
+  )
+    where
+      parts : (ν : Filling) → Holds I ν (g .literals) → Holds I ν before × Holds I ν (neg p ts ∷ after)
+      parts ν h = holds-append I ν before (neg p ts ∷ after) .0 (subst (Holds I ν) (s .0) h)
+
+      one : (ν μ : Filling) → evals ν ts ≡ evals μ ts
+      one ν μ = evals-on ν μ ts [] (λ v h. absurd (List·Memᴰ·not-nil (rw (s .1) at h))) .0
+
+  derive-sound : (g : Goal) (ds : List Goal) → ActSound g (derive ds) → ActSound g (deriveAct ds)
+  unfolding deriveAct
+  derive-sound g ds h = go (anyOversized ds) refl
+    where
+      go : (b : Bool) → anyOversized ds ≡ b → ActSound g (deriveAct ds)
+      go true e = rw (e, deriveAct) tt
+      go false e = rw (e, deriveAct) h
+
+  module _ (clauses : List Clause) (sat : SatisfiesBy (X .M) I clauses) (below : ℕ) (g : Goal) where
+    selected-sound : (s : Selection) → Selected (g .literals) s → ActSound g (selectedAct clauses below g s)
+    unfolding selectedAct
+    selected-sound nothing h = tt
+    selected-sound (positive before p ts after) h = derive-sound g (resolvents clauses g before p ts after) (λ choice. resolvents-sound I choice clauses g before p ts after h X sat)
+    selected-sound (negative before p ts after) h = decide-sound below g before p ts after h
+
+    act-sound : ActSound g (actOf clauses below g)
+    unfolding actOf literalsAct
+    act-sound = go (g .literals) refl
+      where
+        go : (ls : List Literal) → g .literals ≡ ls → ActSound g (literalsAct clauses below g ls)
+        go [] e = e
+        go (l ∷ ls) e = selected-sound (select (l ∷ ls)) (rw e (select-selected (l ∷ ls)))
+
+-- WHAT IS NEXT SAYS OF ITS LEVEL
+module _ (X : Existence) (I : Atoms) where
+  -- The choices covered by a level's goals and by another's are the same.
+  abbrev pub SameCover : Level → Level → Type 0
+  SameCover l l′ = (choice : Inds) → Into X (Open I choice l) (Open I choice l′)
+
+  module _ (g : Goal) (gs : List Goal) (ms : List Marked) (hs : List Goal) where
+    -- Goals in place of the first one, which cover the same.
+    replaced : (ds : List Goal) → ((choice : Inds) → Into X (CoversBy I choice g) (Some (CoversBy I choice) ds)) → SameCover (level (g ∷ gs) ms hs) (level (ds ++ gs) ms hs)
+    replaced ds i choice = (on, back)
+      where
+        on : Open I choice (level (g ∷ gs) ms hs) → X .M (Open I choice (level (ds ++ gs) ms hs))
+        on (inAnswers h) = X .unit (inAnswers h)
+        on (inPending (inl h)) = X .bind (i choice .0 h) (λ k. X .unit (inPending (some-left (CoversBy I choice) ds gs k)))
+        on (inPending (inr h)) = X .unit (inPending (some-right (CoversBy I choice) ds gs h))
+        on (inParked h) = X .unit (inParked h)
+
+        back : Open I choice (level (ds ++ gs) ms hs) → Open I choice (level (g ∷ gs) ms hs)
+        back (inAnswers h) = inAnswers h
+        back (inPending h) = elim (some-split (CoversBy I choice) ds gs h) [ inl k ↦ inPending (inl (i choice .1 k)) | inr k ↦ inPending (inr k) ]
+        back (inParked h) = inParked h
+
+    -- The first goal parked.
+    parking : (m : Mark) → SameCover (level (g ∷ gs) ms hs) (level gs (ms ++ (marked m g ∷ [])) hs)
+    parking m choice = (λ h. X .unit (on h), back)
+      where
+        Covers : Marked → Type 0
+        Covers k = CoversBy I choice (k .goal)
+
+        on : Open I choice (level (g ∷ gs) ms hs) → Open I choice (level gs (ms ++ (marked m g ∷ [])) hs)
+        on (inAnswers h) = inAnswers h
+        on (inPending (inl h)) = inParked (some-right Covers ms (marked m g ∷ []) (inl h))
+        on (inPending (inr h)) = inPending h
+        on (inParked h) = inParked (some-left Covers ms (marked m g ∷ []) h)
+
+        back : Open I choice (level gs (ms ++ (marked m g ∷ [])) hs) → Open I choice (level (g ∷ gs) ms hs)
+        back (inAnswers h) = inAnswers h
+        back (inPending h) = inPending (inr h)
+        back (inParked h) = elim (some-split Covers ms (marked m g ∷ []) h) [ inl k ↦ inParked k | inr k ↦ elim k [ inl c ↦ inPending (inl c) | inr b ↦ absurd b ] ]
+
+    -- The first goal moved to the answers.
+    answering : SameCover (level (g ∷ gs) ms hs) (level gs ms (hs ++ (g ∷ [])))
+    answering choice = (λ h. X .unit (on h), back)
+      where
+        on : Open I choice (level (g ∷ gs) ms hs) → Open I choice (level gs ms (hs ++ (g ∷ [])))
+        on (inAnswers h) = inAnswers (some-left (CoversBy I choice) hs (g ∷ []) h)
+        on (inPending (inl h)) = inAnswers (some-right (CoversBy I choice) hs (g ∷ []) (inl h))
+        on (inPending (inr h)) = inPending h
+        on (inParked h) = inParked h
+
+        back : Open I choice (level gs ms (hs ++ (g ∷ []))) → Open I choice (level (g ∷ gs) ms hs)
+        back (inAnswers h) = elim (some-split (CoversBy I choice) hs (g ∷ []) h) [ inl k ↦ inAnswers k | inr k ↦ elim k [ inl c ↦ inPending (inl c) | inr b ↦ absurd b ] ]
+        back (inPending h) = inPending (inr h)
+        back (inParked h) = inParked h
+
+  -- A deeper level lists no answers.
+  abbrev pub SameAnswers : Place → Level → Level → Type 0
+  SameAnswers zeroth l l′ = Unit {0}
+  SameAnswers (deeper outer) l l′ = l′ .answers ≡ l .answers
+
+  abbrev pub Same : Place → Level → Level → Type 0
+  Same at l l′ = SameCover l l′ × SameAnswers at l l′
+
+  same-answers : (at : Place) (l l′ : Level) → l′ .answers ≡ l .answers → SameAnswers at l l′
+  same-answers zeroth l l′ e = tt
+  same-answers (deeper outer) l l′ e = e
+
+  -- A level that has succeeded has a goal that covers some choice; level 0 does not succeed.
+  abbrev pub Won : Place → Level → Type 0
+  Won zeroth l = ⊥
+  Won (deeper outer) l = (choice : Inds) × Open I choice l
+
+  -- The outer level when the question's goal is possible, when it is not, and when this is not known.
+  pub record QuestionSound (at : Place) (l : Level) (q : Question) : Type 0 where
+    pub onProved : Possible I (q .goal) → Same at l (q .onProved)
+    pub onRefuted : ¬ Possible I (q .goal) → Same at l (q .onRefuted)
+    pub onUnsettled : Same at l (q .onUnsettled)
+
+  abbrev NextSound : Place → Level → Next → Type 0
+  NextSound at l (halt s) = s ≡ finished → l .pending ≡ []
+  NextSound at l (step l′) = Same at l l′
+  NextSound at l success = Won at l
+  NextSound at l (ask q) = QuestionSound at l q
+
+  budget-not : budget ≢ finished
+  budget-not e = let z : _≡_ {A = ℕ} 0 1 = cc in omega arith
+
+  answers-not : answers ≢ finished
+  answers-not e = let z : _≡_ {A = ℕ} 0 1 = cc in omega arith
+
+  store-not : store ≢ finished
+  store-not e = let z : _≡_ {A = ℕ} 0 1 = cc in omega arith
+
+  -- A goal without literals covers a choice.
+  bare-covers : (g : Goal) → g .literals ≡ [] → Possible I g
+  bare-covers g e = let ν : Filling = λ v. node 0 inil in (evals ν (g .answers), (ν, refl, rw e tt))
+
+  module _ (g : Goal) (gs : List Goal) (ms : List Marked) (hs : List Goal) where
+    abbrev here : Level
+    here = level (g ∷ gs) ms hs
+
+    question-sound : (at : Place) (p : ℕ) (ts : Terms) (others : List Literal) → ActSound X I g (decide p ts others) → QuestionSound at here (question at here g gs p ts others)
+    unfolding question withPending withParked
+    question-sound at p ts others s = record {
+      onProved = λ k. (
+        replaced g gs ms hs [] (λ choice. (λ c. absurd (s .0 (k .1 .0) (k .1 .2 .0) (choice, c)), λ b. absurd b)),
+        same-answers at here _ refl,
+      );
+      onRefuted = λ n. (
+        replaced g gs ms hs (goalOf (g .answers) others ∷ []) (λ choice.
+            let i = s .1 (λ ν a. n (evals ν nil, (ν, refl, (a, tt)))) choice in
+            (λ c. X .unit (inl (i .0 c)), λ c. elim c [ inl k ↦ i .1 k | inr b ↦ absurd b ])),
+        same-answers at here _ refl,
+      );
+      onUnsettled = (parking g gs ms hs undecided, same-answers at here _ refl);
+    }
+
+    answer-sound : (answerRoom : ℕ) (at : Place) → g .literals ≡ [] → NextSound at here (answerStep answerRoom at here g gs)
+    unfolding answerStep withAnswer
+    answer-sound answerRoom zeroth e = go (leb (wordsOf hs + goalWords g) answerRoom) refl
+      where
+        go : (b : Bool) → leb (wordsOf hs + goalWords g) answerRoom ≡ b → NextSound zeroth here (answerStep answerRoom zeroth here g gs)
+        go true r = rw (r, answerStep) (answering g gs ms hs, tt)
+        go false r = rw (r, answerStep) (λ k. absurd (answers-not k))
+    answer-sound answerRoom (deeper outer) e = let k = bare-covers g e in (k .0, inPending (inl (k .1)))
+
+    act-step-sound : (answerRoom : ℕ) (at : Place) (a : Act) → ActSound X I g a → NextSound at here (actStep answerRoom at here g gs a)
+    unfolding actStep withParked withPending
+    act-step-sound answerRoom at noLiterals s = answer-sound answerRoom at s
+    act-step-sound answerRoom at (park m) s = (parking g gs ms hs m, same-answers at _ _ refl)
+    act-step-sound answerRoom at (derive ds) s = (replaced g gs ms hs ds s, same-answers at _ _ refl)
+    act-step-sound answerRoom at (decide p ts others) s = question-sound at p ts others s
+
+  unless-sound : (storeSize words : ℕ) (at : Place) (l : Level) (next : Next) → NextSound at l next → NextSound at l (unlessOver storeSize words next)
+  unfolding unlessOver
+  unless-sound storeSize words at l next h = go (leb words storeSize) refl
+    where
+      go : (b : Bool) → leb words storeSize ≡ b → NextSound at l (unlessOver storeSize words next)
+      go true e = rw (e, unlessOver) h
+      go false e = rw (e, unlessOver) (λ k. absurd (store-not k))
+
+  check-sound : (storeSize : ℕ) (at : Place) (l : Level) (next : Next) → NextSound at l next → NextSound at l (checkStore storeSize at next)
+  unfolding checkStore
+  check-sound storeSize at l (halt s) h = h
+  check-sound storeSize at l (step l′) h = unless-sound storeSize (held at l′) at l (step l′) h
+  check-sound storeSize at l success h = h
+  check-sound storeSize at l (ask q) h = unless-sound storeSize (q .heldOutside + goalWords (q .goal)) at l (ask q) h
+
+  next-sound :
+      (clauses : List Clause) → SatisfiesBy (X .M) I clauses → (answerRoom storeSize below : ℕ) (at : Place) (gs : List Goal) (ms : List Marked) (hs : List Goal) (left : ℕ)
+      → NextSound at (level gs ms hs) (nextOf clauses answerRoom storeSize below at (level gs ms hs) left)
+  unfolding nextOf nextFrom
+  next-sound clauses sat answerRoom storeSize below at [] ms hs left = λ k. refl
+  next-sound clauses sat answerRoom storeSize below at (g ∷ gs) ms hs zero = λ k. absurd (budget-not k)
+  next-sound clauses sat answerRoom storeSize below at (g ∷ gs) ms hs (suc left) =
+      check-sound storeSize at (level (g ∷ gs) ms hs) _ (act-step-sound g gs ms hs answerRoom at (actOf clauses below g) (act-sound X I clauses sat below g))
+
+  -- WHAT AN END SAYS OF THE LEVEL THAT IT BEGAN AS
+  abbrev pub EndedSound : Place → Level → Ended → Type 0
+  EndedSound at l (ended succeeded l′ left) = Won at l
+  EndedSound at l (ended (stopped s) l′ left) = Same at l l′ × (s ≡ finished → l′ .pending ≡ [])
+
+  -- What a new level tells of its goal.
+  abbrev pub VerdictSound : Goal → Verdict → Type 0
+  VerdictSound g proved = Possible I g
+  VerdictSound g refuted = ¬ Possible I g
+  VerdictSound g unsettled = Unit {0}
+  VerdictSound g (cut s) = s ≢ finished
+
+  abbrev ReplySound : Goal → Reply → Type 0
+  ReplySound g (reply v left) = VerdictSound g v
+
+  same-level : (at : Place) (l : Level) → Same at l l
+  same-level at l = (λ choice. into-same X, same-answers at l l refl)
+
+  -- A step to a level, and then its end.
+  after : (at : Place) (l l′ : Level) → Same at l l′ → (e : Ended) → EndedSound at l′ e → EndedSound at l e
+  after zeroth l l′ s (ended succeeded m left) h = h
+  after (deeper outer) l l′ s (ended succeeded m left) h = (h .0, s .0 (h .0) .1 (h .1))
+  after zeroth l l′ s (ended (stopped w) m left) h = ((λ choice. into-then X (s .0 choice) (h .0 .0 choice), tt), h .1)
+  after (deeper outer) l l′ s (ended (stopped w) m left) h = ((λ choice. into-then X (s .0 choice) (h .0 .0 choice), h .0 .1 ∙ s .1), h .1)
+
+  module _ (again : Level → ℕ → Ended) (at : Place) (ok : (l : Level) (left : ℕ) → EndedSound at l (again l left)) where
+    close-sound : (l : Level) (q : Question) (r : Reply) → QuestionSound at l q → ReplySound (q .goal) r → EndedSound at l (close again l q r)
+    unfolding close
+    close-sound l q (reply proved left) s d = after at l (q .onProved) (s .onProved d) (again (q .onProved) left) (ok (q .onProved) left)
+    close-sound l q (reply refuted left) s d = after at l (q .onRefuted) (s .onRefuted d) (again (q .onRefuted) left) (ok (q .onRefuted) left)
+    close-sound l q (reply unsettled left) s d = after at l (q .onUnsettled) (s .onUnsettled) (again (q .onUnsettled) left) (ok (q .onUnsettled) left)
+    close-sound l q (reply (cut w) left) s d = (same-level at l, λ k. absurd (d k))
+
+    proceed-sound :
+        (decides : Question → ℕ → Reply) → ((q : Question) (left : ℕ) → ReplySound (q .goal) (decides q left)) → (l : Level) (left : ℕ) (next : Next) → NextSound at l next
+        → EndedSound at l (proceed again decides l left next)
+    unfolding proceed
+    proceed-sound decides d l left (halt s) n = (same-level at l, n)
+    proceed-sound decides d l left (step l′) n = after at l l′ n (again l′ (left - 1)) (ok l′ (left - 1))
+    proceed-sound decides d l left success n = n
+    proceed-sound decides d l left (ask q) n = close-sound l q (decides q (left - 1)) n (d q (left - 1))
+
+  -- A level that was started on one goal decides it.
+  start-open : (choice : Inds) (g : Goal) → Open I choice (startLevel g) → CoversBy I choice g
+  unfolding startLevel
+  start-open choice g (inAnswers h) = absurd h
+  start-open choice g (inPending (inl h)) = h
+  start-open choice g (inPending (inr h)) = absurd h
+  start-open choice g (inParked h) = absurd h
+
+  open-start : (choice : Inds) (g : Goal) → CoversBy I choice g → Open I choice (startLevel g)
+  unfolding startLevel
+  open-start choice g h = inPending (inl h)
+
+  nothing-open : (choice : Inds) (l : Level) → l .answers ≡ [] → l .pending ≡ [] → l .parked ≡ [] → ¬ Open I choice l
+  nothing-open choice l a p k (inAnswers h) = subst (Some (CoversBy I choice)) a h
+  nothing-open choice l a p k (inPending h) = subst (Some (CoversBy I choice)) p h
+  nothing-open choice l a p k (inParked h) = subst (Some (λ m. CoversBy I choice (m .goal))) k h
+
+  reply-sound : (outer : ℕ) (g : Goal) (e : Ended) → EndedSound (deeper outer) (startLevel g) e → ReplySound g (replyOf e)
+  unfolding replyOf verdictOf startLevel
+  reply-sound outer g (ended succeeded l left) h = (h .0, start-open (h .0) g (h .1))
+  reply-sound outer g (ended (stopped finished) l left) h = go (l .parked) refl
+    where
+      go : (ms : List Marked) → l .parked ≡ ms → VerdictSound g (verdictOf (stopped finished) ms)
+      go [] e = λ k. X .never (X .bind (h .0 .0 (k .0) .0 (open-start (k .0) g (k .1))) (λ o. absurd (nothing-open (k .0) l (h .0 .1) (h .1 refl) e o)))
+      go (m ∷ ms) e = tt
+  reply-sound outer g (ended (stopped budget) l left) h = budget-not
+  reply-sound outer g (ended (stopped answers) l left) h = answers-not
+  reply-sound outer g (ended (stopped store) l left) h = store-not
+
+-- THE LEVEL, from any goals, whatever the limits and wherever it stops
+module _ (X : Existence) (I : Atoms) (clauses : List Clause) (sat : SatisfiesBy (X .M) I clauses) (answerRoom storeSize : ℕ) where
+  pub turn-sound :
+      (decides : Question → ℕ → Reply) → ((q : Question) (left : ℕ) → ReplySound X I (q .goal) (decides q left))
+      → (below : ℕ) (at : Place) (turns : ℕ) (l : Level) (left : ℕ) → EndedSound X I at l (turn clauses answerRoom storeSize decides below at turns l left)
+  unfolding turn
+  turn-sound decides d below at zero l left = (same-level X I at l, λ k. absurd (budget-not X I k))
+  turn-sound decides d below at (suc turns) l left =
+      proceed-sound X I (turn clauses answerRoom storeSize decides below at turns) at (turn-sound decides d below at turns) decides d l left (nextOf clauses answerRoom storeSize below at l left)
+      (next-sound X I clauses sat answerRoom storeSize below at (l .pending) (l .parked) (l .answers) left)
+
+  decides-sound :
+      (evaluates : Place → Level → ℕ → Ended) → ((at : Place) (l : Level) (left : ℕ) → EndedSound X I at l (evaluates at l left))
+      → (q : Question) (left : ℕ) → ReplySound X I (q .goal) (decideBy evaluates q left)
+  unfolding decideBy
+  decides-sound evaluates ok q left = reply-sound X I (q .heldOutside) (q .goal) _ (ok (deeper (q .heldOutside)) (startLevel (q .goal)) left)
+
+  pub level-sound : (below : ℕ) (at : Place) (l : Level) (left : ℕ) → EndedSound X I at l (evaluateLevel clauses answerRoom storeSize below at l left)
+  unfolding evaluateLevel unasked
+  level-sound zero at l left = turn-sound unasked (λ q m. tt) zero at (suc left) l left
+  level-sound (suc below) at l left =
+      turn-sound (decideBy (evaluateLevel clauses answerRoom storeSize below)) (decides-sound (evaluateLevel clauses answerRoom storeSize below) (level-sound below)) (suc below) at (suc left) l left
+
+  -- Clark's theorem 2, for a new level on an atom: if it succeeds the atom is true under some filling of its variables (it has none where a
+  -- level starts), and if it finishes with nothing parked the atom is false under every one.
+  module _ (below outer : ℕ) (p : ℕ) (ts : Terms) (left m : ℕ) where
+    abbrev replied : Reply
+    replied = replyOf (evaluateLevel clauses answerRoom storeSize below (deeper outer) (startLevel (goalOf nil (pos p ts ∷ []))) left)
+
+    atom-sound : ReplySound X I (goalOf nil (pos p ts ∷ [])) replied
+    atom-sound = reply-sound X I outer (goalOf nil (pos p ts ∷ [])) _ (level-sound below (deeper outer) (startLevel (goalOf nil (pos p ts ∷ []))) left)
+
+    pub level-proves : replied ≡ reply proved m → (ν : Filling) × I p (evals ν ts)
+    level-proves e = let h : Possible I (goalOf nil (pos p ts ∷ [])) = subst (ReplySound X I (goalOf nil (pos p ts ∷ []))) e atom-sound in (h .1 .0, h .1 .2 .0)
+
+    pub level-refutes : replied ≡ reply refuted m → (ν : Filling) → ¬ I p (evals ν ts)
+    level-refutes e ν a = let h : ¬ Possible I (goalOf nil (pos p ts ∷ [])) = subst (ReplySound X I (goalOf nil (pos p ts ∷ []))) e atom-sound in h (inil, (ν, refl, (a, tt)))
