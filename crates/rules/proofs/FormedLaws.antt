@@ -22,6 +22,7 @@ use Rattle.rules.proofs.TermLaws.{subs-count, applys-count}
 use Rattle.rules.proofs.CellLaws.{literalSizes}
 use Rattle.rules.proofs.GoalLaws.{goal-words}
 use Rattle.rules.proofs.NumberingLaws.{renumber-inOrder}
+use Rattle.rules.proofs.NextLaws.{either}
 
 pub renames-count : (ρ : ℕ → ℕ) (ts : Terms) → count (renames ρ ts) ≡ count ts
 renames-count ρ nil = refl
@@ -48,10 +49,8 @@ about-all : (Q : Clause → Type 0) (p : ℕ) (cs : List Clause) → All Q cs �
 unfolding clausesAbout
 about-all Q p [] k = tt
 about-all Q p (c ∷ cs) k =
-    elim (eqb (c .predicate) p) as (λ b. All Q (elim b as (λ _. List Clause) [ true ↦ c ∷ clausesAbout p cs | false ↦ clausesAbout p cs ])) [
-      | true ↦ (k .0, about-all Q p cs (k .1))
-      | false ↦ about-all Q p cs (k .1)
-    ]
+    either (All Q) (eqb (c .predicate) p) (c ∷ clausesAbout p cs) (clausesAbout p cs)
+    (λ _. (k .0, about-all Q p cs (k .1))) (λ _. about-all Q p cs (k .1))
 
 or-none : (a b : Bool) → (a || b) ≡ false → (a ≡ false) × (b ≡ false)
 or-none true b e = absurd (true≢false e)

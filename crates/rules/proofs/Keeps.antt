@@ -1,18 +1,19 @@
 -- A property that every act keeps holds of every goal that a run leaves: one property of pending goals, one of parked ones, one of answers.
-use Prim.Native.Nat.{ℕ, zero, suc, _+_, _-_}
-use mathlib.Core.Path.{_≡_, refl}
-use mathlib.Core.Bool.{Bool, true, false}
+use Prim.Native.Nat.{ℕ}
+use mathlib.Core.Path.{_≡_, refl, subst}
 use mathlib.Core.Logic.{_⊎_, inl, inr}
+use mathlib.Core.Bool.{false}
 use mathlib.Core.List.{List, [], _∷_, _++_, List·Memᴰ, List·Memᴰ·head, List·Memᴰ·tail}
-use lib.Dec.{leb}
 use Rattle.rules.specs.Terms.{Terms, nil, varsTerms}
 use Rattle.rules.specs.Syntax.{Literal, pos, neg, Clause, Deck, Goal}
-use Rattle.rules.specs.Goals.{Mark, pending, floundered, undecided, oversized, deep, Marked, marked, goalWords, wordsOf}
-use Rattle.rules.specs.Resolution.{Selection, nothing, positive, negative, select, resolvents, anyOversized}
+use Rattle.rules.specs.Goals.{Mark, pending, floundered, undecided, oversized, deep, Marked, marked}
+use Rattle.rules.specs.Resolution.{resolvents, anyOversized}
 use Rattle.rules.specs.WellFormed.{All}
-use Rattle.rules.specs.Evaluation.{Stop, Level, startLevel, withPending, withParked, withAnswer, Place, zeroth, deeper, held, Act, noLiterals, park, derive, decide, deriveAct, decideAct, selectedAct, literalsAct, actOf, Question, question, Next, halt, step, success, ask, answerStep, actStep, unlessOver, checkStore, Ended, ended, proved, refuted, unsettled, cut, Reply, reply, close, proceed, decideBy, unasked, nextFrom, nextOf, turn, evaluateLevel, Outcome, outcome, evaluate}
+use Rattle.rules.specs.Evaluation.{Level, startLevel, withPending, withParked, withAnswer, Place, zeroth, Act, noLiterals, park, derive, decide, question, Next, halt, step, success, ask, Ended, ended, nextOf, evaluateLevel, Outcome, outcome, evaluate}
 use Rattle.rules.proofs.ListLaws.{all-append, all-snoc, all-of}
 use Rattle.rules.proofs.SelectLaws.{Selected, select-selected}
+use Rattle.rules.proofs.NextLaws.{Acts, bare, flounders, overflows, resolves, bottoms, asks, Ahead, emptied, unpaid, unlisted, unstored, lists, parks, replaces, succeeds, inquires, ahead}
+use Rattle.rules.proofs.LevelLaws.{Runs, halts, steps, wins, proves, refutes, unsettles, cuts, next-ahead, runs}
 
 pub record Invariant : Type 1 where
   pub pending : Goal → Type 0
@@ -53,34 +54,16 @@ Makes J g (derive ds) = All (J .pending) ds
 Makes J g (decide p ts others) = J .pending (atomGoal p ts) × J .pending (withLiterals g others) × J .parked (marked undecided g)
 
 module _ (J : Invariant) (clauses : List Clause) (g : Goal) (h : Kept J clauses g) where
-  derive-makes : (ds : List Goal) → (anyOversized ds ≡ false → All (J .pending) ds) → Makes J g (deriveAct ds)
-  unfolding deriveAct
-  derive-makes ds k = go (anyOversized ds) refl
-    where
-      go : (b : Bool) → anyOversized ds ≡ b → Makes J g (deriveAct ds)
-      go true e = rw (e, deriveAct) (h .parks oversized tt)
-      go false e = rw (e, deriveAct) (k e)
-
-  decide-makes :
-      (below p : ℕ) (ts : Terms) (others : List Literal) → J .pending (atomGoal p ts) × J .pending (withLiterals g others)
-      → Makes J g (decideAct below p ts others)
-  unfolding decideAct
-  decide-makes zero p ts others k = h .parks deep tt
-  decide-makes (suc below) p ts others k = (k .0, k .1, h .parks undecided tt)
-
-  selected-makes : (below : ℕ) (s : Selection) → Selected (g .literals) s → Makes J g (selectedAct clauses below g s)
-  unfolding selectedAct
-  selected-makes below nothing e = h .parks floundered tt
-  selected-makes below (positive before p ts after) e = derive-makes (resolvents clauses g before p ts after) (h .derives before p ts after e)
-  selected-makes below (negative before p ts after) e = decide-makes below p ts (before ++ after) (h .asks before p ts after (e .0) (e .1))
-
-  act-makes : (below : ℕ) → Makes J g (actOf clauses below g)
-  unfolding actOf literalsAct
-  act-makes below = go (g .literals) refl
-    where
-      go : (ls : List Literal) → g .literals ≡ ls → Makes J g (literalsAct clauses below g ls)
-      go [] e = h .answered e
-      go (l ∷ ls) e = selected-makes below (select (l ∷ ls)) (rw e (select-selected (l ∷ ls)))
+  makes : {below : ℕ} {a : Act} → Acts clauses below g a → Makes J g a
+  makes (bare e) = h .answered e
+  makes (flounders e) = h .parks floundered tt
+  makes (overflows e o) = h .parks oversized tt
+  makes (resolves {before} {after} {p} {ts} e o) = h .derives before p ts after (subst (Selected (g .literals)) e (select-selected (g .literals))) o
+  makes (bottoms e z) = h .parks deep tt
+  makes (asks {before} {after} {p} {ts = ts} e z) =
+      let s = subst (Selected (g .literals)) e (select-selected (g .literals)) in
+      let k = h .asks before p ts after (s .0) (s .1) in
+      (k .0, k .1, h .parks undecided tt)
 
 -- LEVELS
 module _ (J : Invariant) where
@@ -95,7 +78,7 @@ module _ (J : Invariant) where
   abbrev pub OutcomeHas : Outcome → Type 0
   OutcomeHas o = Has (o .pending) (o .parked) (o .answers)
 
-  -- What is next keeps it, whatever the new level tells.
+  -- What is next keeps it, whatever a new level tells.
   abbrev pub NextHas : Next → Type 0
   NextHas (halt s) = Unit {0}
   NextHas (step l) = LevelHas l
@@ -109,7 +92,7 @@ module _ (J : Invariant) where
   unfolding startLevel
   start-has g h = record { pending = (h, tt); parked = tt; answers = tt }
 
-  -- Other goals pending, where what is parked and answered stays.
+  -- Levels made of one that has it.
   module _ (l : Level) (h : LevelHas l) where
     pending-has : (gs : List Goal) → All (J .pending) gs → LevelHas (withPending gs l)
     unfolding withPending
@@ -123,82 +106,46 @@ module _ (J : Invariant) where
     unfolding withAnswer
     answer-has g gs a k = record { pending = k; parked = h .parked; answers = all-snoc (J .answer) (l .answers) g (h .answers) a }
 
-    answerStep-has :
-        (answerRoom : ℕ) (at : Place) (g : Goal) (gs : List Goal) → J .answer g → All (J .pending) gs → NextHas (answerStep answerRoom at l g gs)
-    unfolding answerStep
-    answerStep-has answerRoom zeroth g gs a k =
-        elim (leb (wordsOf (l .answers) + goalWords g) answerRoom)
-        as (λ b. NextHas (elim b as (λ _. Next) [ true ↦ step (withAnswer g gs l) | false ↦ halt Stop.answers ])) [ true ↦ answer-has g gs a k | false ↦ tt ]
-    answerStep-has answerRoom (deeper outer) g gs a k = tt
+    question-has :
+        (at : Place) (g : Goal) (gs : List Goal) (p : ℕ) (ts : Terms) (others : List Literal) → Makes J g (decide p ts others) → All (J .pending) gs
+        → NextHas (ask (question at l g gs p ts others))
+    unfolding question
+    question-has at g gs p ts others (a, b, c) k =
+        (a, pending-has gs k, pending-has (withLiterals g others ∷ gs) (b, k), parked-has undecided g gs c k)
 
-    module _ (at : Place) (g : Goal) (gs : List Goal) (k : All (J .pending) gs) where
-      question-has : (p : ℕ) (ts : Terms) (others : List Literal) → Makes J g (decide p ts others) → NextHas (ask (question at l g gs p ts others))
-      unfolding question
-      question-has p ts others (a, b, c) = (a, pending-has gs k, pending-has (withLiterals g others ∷ gs) (b, k), parked-has undecided g gs c k)
+  module _ (clauses : List Clause) (kept : (g : Goal) → J .pending g → Kept J clauses g) (answerRoom storeSize : ℕ) where
+    -- Of the first pending goal and those after it, and what an act makes of the first.
+    first-has : {below : ℕ} {l : Level} {g : Goal} {gs : List Goal} {a : Act} → l .pending ≡ g ∷ gs → LevelHas l → Acts clauses below g a
+        → All (J .pending) gs × Makes J g a
+    first-has {g = g} e h a = let k = subst (All (J .pending)) e (h .pending) in (k .1, makes J clauses g (kept g (k .0)) a)
 
-      actStep-has : (answerRoom : ℕ) (a : Act) → Makes J g a → NextHas (actStep answerRoom at l g gs a)
-      unfolding actStep
-      actStep-has answerRoom noLiterals m = answerStep-has answerRoom at g gs m k
-      actStep-has answerRoom (park c) m = parked-has c g gs m k
-      actStep-has answerRoom (derive ds) m = pending-has (ds ++ gs) (all-append (J .pending) ds gs m k)
-      actStep-has answerRoom (decide p ts others) m = question-has p ts others m
+    ahead-has : {below left : ℕ} {at : Place} {l : Level} {n : Next} → Ahead clauses answerRoom storeSize below at l left n → LevelHas l → NextHas n
+    ahead-has (emptied e) h = tt
+    ahead-has (unpaid e) h = tt
+    ahead-has (unlisted e a f) h = tt
+    ahead-has (unstored e) h = tt
+    ahead-has (lists {l} {left} {g} {gs} e a f s) h = let k = first-has e h a in answer-has l h g gs (k .1) (k .0)
+    ahead-has (parks {l = l} {g = g} {gs} {m} e a s) h = let k = first-has e h a in parked-has l h m g gs (k .1) (k .0)
+    ahead-has (replaces {l = l} {gs = gs} {ds} e a s) h = let k = first-has e h a in pending-has l h (ds ++ gs) (all-append (J .pending) ds gs (k .1) (k .0))
+    ahead-has (succeeds e a) h = tt
+    ahead-has (inquires {at} {l} {g = g} {gs} {p} {ts} {others} e a s) h =
+        let k = first-has e h a in question-has l h at g gs p ts others (k .1) (k .0)
 
-  unless-has : (storeSize words : ℕ) (next : Next) → NextHas next → NextHas (unlessOver storeSize words next)
-  unfolding unlessOver
-  unless-has storeSize words next h =
-      elim (leb words storeSize) as (λ b. NextHas (elim b as (λ _. Next) [ true ↦ next | false ↦ halt Stop.store ])) [ true ↦ h | false ↦ tt ]
+    pub next-has : (below : ℕ) (at : Place) (l : Level) (left : ℕ) → LevelHas l → NextHas (nextOf clauses answerRoom storeSize below at l left)
+    next-has below at l left = ahead-has (ahead clauses answerRoom storeSize below at l left)
 
-  check-has : (storeSize : ℕ) (at : Place) (next : Next) → NextHas next → NextHas (checkStore storeSize at next)
-  unfolding checkStore
-  check-has storeSize at (halt s) h = h
-  check-has storeSize at (step l) h = unless-has storeSize (held at l) (step l) h
-  check-has storeSize at success h = h
-  check-has storeSize at (ask q) h = unless-has storeSize (q .heldOutside + goalWords (q .goal)) (ask q) h
+    -- So does a level's run, at any place, and so does each of the levels that it asks.
+    runs-has : {below left : ℕ} {at : Place} {l : Level} {e : Ended} → Runs clauses answerRoom storeSize below at l left e → LevelHas l → EndedHas e
+    runs-has (halts n) h = h
+    runs-has (steps n r) h = runs-has r (ahead-has (next-ahead n) h)
+    runs-has (wins n) h = h
+    runs-has (proves n a r) h = runs-has r (ahead-has (next-ahead n) h .1)
+    runs-has (refutes n a f r) h = runs-has r (ahead-has (next-ahead n) h .2)
+    runs-has (unsettles n a f r) h = runs-has r (ahead-has (next-ahead n) h .3)
+    runs-has (cuts n a f) h = h
 
-  module _ (again : Level → ℕ → Ended) (keeps : (l : Level) (left : ℕ) → LevelHas l → EndedHas (again l left)) (l : Level) (h : LevelHas l) where
-    close-has : (q : Question) → NextHas (ask q) → (r : Reply) → EndedHas (close again l q r)
-    unfolding close
-    close-has q n (reply proved left) = keeps (q .onProved) left (n .1)
-    close-has q n (reply refuted left) = keeps (q .onRefuted) left (n .2)
-    close-has q n (reply unsettled left) = keeps (q .onUnsettled) left (n .3)
-    close-has q n (reply (cut s) left) = h
-
-    proceed-has : (decides : Question → ℕ → Reply) (left : ℕ) (next : Next) → NextHas next → EndedHas (proceed again decides l left next)
-    unfolding proceed
-    proceed-has decides left (halt s) n = h
-    proceed-has decides left (step l′) n = keeps l′ (left - 1) n
-    proceed-has decides left success n = h
-    proceed-has decides left (ask q) n = close-has q n (decides q (left - 1))
-
-module _ (J : Invariant) (clauses : List Clause) (kept : (g : Goal) → J .pending g → Kept J clauses g) (answerRoom storeSize : ℕ) where
-  nextFrom-has :
-      (below : ℕ) (at : Place) (l : Level) → LevelHas J l → (gs : List Goal) → All (J .pending) gs → (left : ℕ)
-      → NextHas J (nextFrom clauses answerRoom storeSize below at l gs left)
-  unfolding nextFrom
-  nextFrom-has below at l h [] k left = tt
-  nextFrom-has below at l h (g ∷ gs) k zero = tt
-  nextFrom-has below at l h (g ∷ gs) k (suc left) =
-      check-has J storeSize at (actStep answerRoom at l g gs (actOf clauses below g))
-      (actStep-has J l h at g gs (k .1) answerRoom (actOf clauses below g) (act-makes J clauses g (kept g (k .0)) below))
-
-  pub next-has : (below : ℕ) (at : Place) (l : Level) (left : ℕ) → LevelHas J l → NextHas J (nextOf clauses answerRoom storeSize below at l left)
-  unfolding nextOf
-  next-has below at l left h = nextFrom-has below at l h (l .pending) (h .pending) left
-
-  pub turn-has :
-      (decides : Question → ℕ → Reply) (below : ℕ) (at : Place) (turns : ℕ) (l : Level) (left : ℕ) → LevelHas J l
-      → EndedHas J (turn clauses answerRoom storeSize decides below at turns l left)
-  unfolding turn
-  turn-has decides below at zero l left h = h
-  turn-has decides below at (suc turns) l left h =
-      proceed-has J (turn clauses answerRoom storeSize decides below at turns) (turn-has decides below at turns) l h decides left
-      (nextOf clauses answerRoom storeSize below at l left) (next-has below at l left h)
-
-  -- So does the evaluation of a level, at any place.
-  pub level-has : (below : ℕ) (at : Place) (l : Level) (left : ℕ) → LevelHas J l → EndedHas J (evaluateLevel clauses answerRoom storeSize below at l left)
-  unfolding evaluateLevel
-  level-has zero at l left h = turn-has unasked zero at (suc left) l left h
-  level-has (suc below) at l left h = turn-has (decideBy (evaluateLevel clauses answerRoom storeSize below)) (suc below) at (suc left) l left h
+    pub level-has : (below : ℕ) (at : Place) (l : Level) (left : ℕ) → LevelHas l → EndedHas (evaluateLevel clauses answerRoom storeSize below at l left)
+    level-has below at l left = runs-has (runs clauses answerRoom storeSize below at l left)
 
 outcome-has : (J : Invariant) (total : ℕ) (e : Ended) → EndedHas J e → OutcomeHas J (outcome total e)
 unfolding outcome

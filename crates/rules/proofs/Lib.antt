@@ -12,6 +12,14 @@ pub mod LevelLaws
 pub mod Keeps
 pub mod FormedLaws
 pub mod GoalsKept
+pub mod Values
+pub mod UnifySound
+pub mod Renaming
+pub mod ResolventSound
+pub mod LevelSound
+pub mod Cover
+pub mod DeckWords
+pub mod Existence
 pub mod FirstGoal
 pub mod NextLaws
 pub mod SelectLaws
