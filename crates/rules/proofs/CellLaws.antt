@@ -4,15 +4,19 @@ use Prim.Native.Nat.{ℕ, zero, suc, _+_, _-_, _≤_, _<_, max}
 use mathlib.Core.Path.{_≡_, refl, ap, ap₂, sym, _∙_, subst}
 use mathlib.Core.Bool.{Bool, true, false, and-eq-true-iff}
 use mathlib.Core.Option.{Option, none, some, Option·none-ne-some}
-use mathlib.Core.List.{List, [], _∷_}
+use mathlib.Core.List.{List, [], _∷_, _++_, append-assoc}
 use native.Mathlib.Omega.{arith}
-use lib.ListN.{length}
+use native.Mathlib.Decide.{decLt}
+use lib.ListN.{length, drop, getElem?}
+use lib.Seq.{drop-at}
 use lib.Dec.{leb}
-use borrow.Author.Tests.{le-leb, leb-true}
+use borrow.Author.Tests.{le-leb, lt-leb, leb-true}
 use Rattle.rules.specs.Terms.{Term, var, app, Terms, nil, cons, _+++_, count, size, sizes, varsTerm, varsTerms}
 use Rattle.rules.specs.Syntax.{Symbol, functor, predicate, Literal, pos, neg, arguments, varsLiterals}
-use Rattle.rules.specs.Cells.{writeTerm, writeTerms, writeLiteral, writeLiterals, Cell, variable, function, positive, negative, unknown, symbolCell, negatedCell, variableCell, readCell, Taken, taken, takeOne, takeTerms, Row, row, putTerm, putLiteral, putCell, readRow, onlyLiterals, numbered, keepNumbered, readLiterals}
-use Rattle.rules.specs.WellFormed.{All, WfTerm, WfTerms, WfLiteral, WfLiterals, InOrder}
+use Rattle.rules.specs.Cells.{writeTerm, writeTerms, writeLiterals, Cell, variable, function, positive, negative, unknown, symbolCell, negatedCell, variableCell, readCell, Taken, taken, takeOne, takeTerms, Row, row, putTerm, putLiteral, putCell, readRow, onlyLiterals, numbered, keepNumbered, readLiterals}
+use Rattle.rules.specs.WellFormed.{All, WfTerm, WfTerms, WfLiterals, InOrder}
+use Rattle.rules.proofs.ListLaws.{all-weaken}
+use Rattle.rules.proofs.TermLaws.{join-nil}
 
 -- A variable's number that a cell can hold.
 abbrev pub Small : ℕ → Type 0
@@ -41,6 +45,37 @@ literals-length (neg p ts ∷ ls) = omega (arith, terms-length ts (writeLiterals
 pub row-length : (ts : Terms) (ls : List Literal) → length (writeTerms ts (writeLiterals ls)) ≡ sizes ts + literalSizes ls
 row-length ts ls = omega (arith, terms-length ts (writeLiterals ls), literals-length ls)
 
+-- What follows is put behind.
+mutual
+  write-term-append : (t : Term) (rest : List ℕ) → writeTerm t rest ≡ writeTerm t [] ++ rest
+  write-term-append (var v) rest = refl
+  write-term-append (app f ts) rest = ap {B = List ℕ} (λ x. f ∷ x) (write-append ts rest)
+
+  pub write-append : (ts : Terms) (rest : List ℕ) → writeTerms ts rest ≡ writeTerms ts [] ++ rest
+  write-append nil rest = refl
+  write-append (cons t ts) rest =
+      write-term-append t (writeTerms ts rest)
+      ∙ ap (writeTerm t [] ++_) (write-append ts rest)
+      ∙ sym (append-assoc (writeTerm t []) (writeTerms ts []) rest)
+      ∙ ap (_++ rest) (sym (write-term-append t (writeTerms ts [])))
+
+literal-append :
+    (ts : Terms) (ls ms : List Literal) → writeLiterals (ls ++ ms) ≡ writeLiterals ls ++ writeLiterals ms
+    → writeTerms ts (writeLiterals (ls ++ ms)) ≡ writeTerms ts (writeLiterals ls) ++ writeLiterals ms
+literal-append ts ls ms e =
+    ap (writeTerms ts) e
+    ∙ write-append ts (writeLiterals ls ++ writeLiterals ms)
+    ∙ sym (append-assoc (writeTerms ts []) (writeLiterals ls) (writeLiterals ms))
+    ∙ ap (_++ writeLiterals ms) (sym (write-append ts (writeLiterals ls)))
+
+pub writeLiterals-append : (ls ms : List Literal) → writeLiterals (ls ++ ms) ≡ writeLiterals ls ++ writeLiterals ms
+writeLiterals-append [] ms = refl
+writeLiterals-append (pos p ts ∷ ls) ms = ap {B = List ℕ} (λ x. p ∷ x) (literal-append ts ls ms (writeLiterals-append ls ms))
+writeLiterals-append (neg p ts ∷ ls) ms = ap {B = List ℕ} (λ x. (16384 + p) ∷ x) (literal-append ts ls ms (writeLiterals-append ls ms))
+
+pub drop-terms : (ts : Terms) (rest : List ℕ) → drop (sizes ts) (writeTerms ts rest) ≡ rest
+drop-terms ts rest = ap (drop (sizes ts)) (write-append ts rest) ∙ drop-at (writeTerms ts []) rest (sizes ts) (omega (arith, terms-length ts []))
+
 -- There are no more variables than cells.
 mutual
   term-vars : (t : Term) (vs : List ℕ) → length (varsTerm t vs) ≤ size t + length vs
@@ -64,13 +99,9 @@ numbered-below bound next (v ∷ vs) e h =
     let l : v ≤ next = leb-true v next (b .0) in
     (omega arith, numbered-below bound (max next (suc v)) vs (b .1) (omega arith))
 
-below-small : (vs : List ℕ) → All (λ v. v < 1024) vs → All Small vs
-below-small [] h = tt
-below-small (v ∷ vs) h = (omega (arith, h .0), below-small vs (h .1))
-
 -- Of variables in order, at most 1,024 of them, each can be held.
 pub inOrder-small : (vs : List ℕ) → InOrder vs → length vs ≤ 1024 → All Small vs
-inOrder-small vs e h = below-small vs (numbered-below 1024 0 vs e (omega arith))
+inOrder-small vs e h = all-weaken (λ v. v < 1024) Small (λ v l. omega arith) vs (numbered-below 1024 0 vs e (omega arith))
 
 -- One list of terms and then another.
 pub write-join : (ts us : Terms) (rest : List ℕ) → writeTerms (ts +++ us) rest ≡ writeTerms ts (writeTerms us rest)
@@ -86,7 +117,7 @@ wf-split S nil us w = (tt, w)
 wf-split S (cons t ts) us w = let r = wf-split S ts us (w .1) in ((w .0, r .0), r .1)
 
 mutual
-  after-term : (P : ℕ → Type 0) (t : Term) (vs : List ℕ) → All P (varsTerm t vs) → All P vs
+  pub after-term : (P : ℕ → Type 0) (t : Term) (vs : List ℕ) → All P (varsTerm t vs) → All P vs
   after-term P (var v) vs h = h .1
   after-term P (app f ts) vs h = after-terms P ts vs h
 
@@ -94,6 +125,17 @@ mutual
   pub after-terms : (P : ℕ → Type 0) (ts : Terms) (vs : List ℕ) → All P (varsTerms ts vs) → All P vs
   after-terms P nil vs h = h
   after-terms P (cons t ts) vs h = after-terms P ts vs (after-term P t (varsTerms ts vs) h)
+
+mutual
+  other-term : (P : ℕ → Type 0) (t : Term) (us vs : List ℕ) → All P (varsTerm t us) → All P vs → All P (varsTerm t vs)
+  other-term P (var v) us vs h k = (h .0, k)
+  other-term P (app f ts) us vs h k = other-terms P ts us vs h k
+
+  -- It holds of them with other variables after them.
+  pub other-terms : (P : ℕ → Type 0) (ts : Terms) (us vs : List ℕ) → All P (varsTerms ts us) → All P vs → All P (varsTerms ts vs)
+  other-terms P nil us vs h k = k
+  other-terms P (cons t ts) us vs h k =
+      other-term P t (varsTerms ts us) (varsTerms ts vs) h (other-terms P ts us vs (after-term P t (varsTerms ts us) h) k)
 
 -- A term, terms in front of what is read.
 unfoldable pub pushTerm : Term → Option Row → Option Row
@@ -129,11 +171,24 @@ unfolding putCell pushTerm
 put-var v none = refl
 put-var v (some (row ts ls)) = refl
 
+-- What a cell stands for goes by its range.
+pub cell-symbol : (S : List Symbol) (c : ℕ) → c < 16384 → readCell S c ≡ symbolCell c (getElem? S c)
+unfolding readCell
+cell-symbol S c h = rw (lt-leb 32768 c (omega arith), lt-leb 16384 c h, readCell)
+
+pub cell-negated : (S : List Symbol) (c : ℕ) → 16384 ≤ c → c < 32768 → readCell S c ≡ negatedCell (c - 16384) (getElem? S (c - 16384))
+unfolding readCell
+cell-negated S c l h = rw (lt-leb 32768 c h, le-leb 16384 c l, readCell)
+
+pub cell-variable : (S : List Symbol) (c : ℕ) → 32768 ≤ c → readCell S c ≡ variableCell (c - 32768)
+unfolding readCell
+cell-variable S c l = rw (le-leb 32768 c l, readCell)
+
 pub readCell-var : (S : List Symbol) (v : ℕ) → Small v → readCell S (32768 + v) ≡ variable v
-unfolding readCell variableCell
+unfolding variableCell
 readCell-var S v h =
     let n : 32768 + v - 32768 ≡ v = omega arith in
-    rw (le-leb 32768 (32768 + v) (omega arith), readCell) (ap variableCell n ∙ rw (le-leb v 1023 h, variableCell))
+    cell-variable S (32768 + v) (omega arith) ∙ ap variableCell n ∙ rw (le-leb v 1023 h, variableCell)
 
 -- What is written is read.
 mutual
@@ -169,9 +224,9 @@ read-literals S (neg p ts ∷ ls) w s =
     read-literal S (16384 + p) (neg p) (negative p (count ts)) ts ls (λ r. refl) (w .0 .0) (w .0 .1) s
     (read-literals S ls (w .1) (after-terms Small ts (varsLiterals ls) s))
 
-join-nil : (ts : Terms) → ts +++ nil ≡ ts
-join-nil nil = refl
-join-nil (cons t ts) = ap (cons t) (join-nil ts)
+pub only-literals : (S : List Symbol) (ls : List Literal) → WfLiterals S ls → All Small (varsLiterals ls) → onlyLiterals (readRow S (writeLiterals ls)) ≡ some ls
+unfolding onlyLiterals
+only-literals S ls w s = ap onlyLiterals (read-literals S ls w s)
 
 pub read-row :
     (S : List Symbol) (ts : Terms) (ls : List Literal) → WfTerms S ts → WfLiterals S ls → All Small (varsTerms ts (varsLiterals ls))
@@ -190,25 +245,25 @@ read-inOrder S ls w e h =
     let few : length (varsLiterals ls) ≤ 1024 = omega (arith, literals-vars ls, literals-length ls) in
     rw (read-literals S ls w (inOrder-small (varsLiterals ls) e few)) (rw (e, keepNumbered))
 
--- What is read was written.
+-- What is read was written. The cell that stands for a variable or a symbol.
 abbrev pub Written : Cell → ℕ → Type 0
 Written (variable v) c = (c ≡ 32768 + v) × Small v
-Written (function f k) c = c ≡ f
-Written (positive p k) c = c ≡ p
-Written (negative p k) c = c ≡ 16384 + p
+Written (function f k) c = (c ≡ f) × (c < 16384)
+Written (positive p k) c = (c ≡ p) × (c < 16384)
+Written (negative p k) c = (c ≡ 16384 + p) × (c < 32768)
 Written unknown c = Unit {0}
 
-symbol-written : (c : ℕ) (o : Option Symbol) → Written (symbolCell c o) c
+symbol-written : (c : ℕ) (o : Option Symbol) → c < 16384 → Written (symbolCell c o) c
 unfolding symbolCell
-symbol-written c none = tt
-symbol-written c (some (functor k)) = refl
-symbol-written c (some (predicate k)) = refl
+symbol-written c none h = tt
+symbol-written c (some (functor k)) h = (refl, h)
+symbol-written c (some (predicate k)) h = (refl, h)
 
-negated-written : (c n : ℕ) (o : Option Symbol) → c ≡ 16384 + n → Written (negatedCell n o) c
+negated-written : (c n : ℕ) (o : Option Symbol) → c ≡ 16384 + n → c < 32768 → Written (negatedCell n o) c
 unfolding negatedCell
-negated-written c n none e = tt
-negated-written c n (some (functor k)) e = tt
-negated-written c n (some (predicate k)) e = e
+negated-written c n none e h = tt
+negated-written c n (some (functor k)) e h = tt
+negated-written c n (some (predicate k)) e h = (e, h)
 
 variable-written : (c v : ℕ) → c ≡ 32768 + v → Written (variableCell v) c
 unfolding variableCell
@@ -219,13 +274,15 @@ variable-written c v e = go (leb v 1023) refl
     go false q = rw (q, variableCell) tt
 
 pub cell-written : (S : List Symbol) (c : ℕ) → Written (readCell S c) c
-unfolding readCell
-cell-written S c = go (leb 32768 c) (leb 16384 c) refl refl
+cell-written S c = go (decLt c 16384) (decLt c 32768)
   where
-    go : (a b : Bool) → leb 32768 c ≡ a → leb 16384 c ≡ b → Written (readCell S c) c
-    go true b ea eb = rw (ea, readCell) (variable-written c (c - 32768) (let h : 32768 ≤ c = leb-true 32768 c ea in omega arith))
-    go false true ea eb = rw (ea, eb, readCell) (negated-written c (c - 16384) _ (let h : 16384 ≤ c = leb-true 16384 c eb in omega arith))
-    go false false ea eb = rw (ea, eb, readCell) (symbol-written c _)
+    go : Dec (c < 16384) → Dec (c < 32768) → Written (readCell S c) c
+    go (yes a) d = rw (cell-symbol S c a) (symbol-written c (getElem? S c) a)
+    go (no a) (yes b) = rw (cell-negated S c (omega arith) b) (negated-written c (c - 16384) (getElem? S (c - 16384)) (omega arith) b)
+    go (no a) (no b) = rw (cell-variable S c (omega arith)) (variable-written c (c - 32768) (omega arith))
+
+pub written-as : (S : List Symbol) (c : ℕ) (cell : Cell) → readCell S c ≡ cell → Written cell c
+written-as S c cell e = subst (λ x. Written x c) e (cell-written S c)
 
 -- The row that cells are the writing of.
 pub record Reads (S : List Symbol) (cs : List ℕ) (ts : Terms) (ls : List Literal) : Type 0 where
@@ -234,6 +291,46 @@ pub record Reads (S : List Symbol) (cs : List ℕ) (ts : Terms) (ls : List Liter
   pub literals : WfLiterals S ls
   pub small : All Small (varsTerms ts (varsLiterals ls))
 
+-- A cell in front of the terms that it takes.
+module _ (S : List Symbol) (c : ℕ) (cs : List ℕ) (ls : List Literal) where
+  pub variable-reads : (v : ℕ) (ts : Terms) → readCell S c ≡ variable v → Reads S cs ts ls → Reads S (c ∷ cs) (cons (var v) ts) ls
+  variable-reads v ts e r =
+      let w = written-as S c (variable v) e in
+      record { written = ap₂ _∷_ (w .0) (r .written); terms = (tt, r .terms); literals = r .literals; small = (w .1, r .small) }
+
+  pub functor-reads :
+      (f k : ℕ) (front others : Terms) → readCell S c ≡ function f k → count front ≡ k → Reads S cs (front +++ others) ls → Reads S (c ∷ cs) (cons (app f front) others) ls
+  functor-reads f k front others e n r =
+      let w = wf-split S front others (r .terms) in
+      let same : c ≡ f = written-as S c (function f k) e .0 in
+      record {
+        written = ap₂ _∷_ same (r .written ∙ write-join front others (writeLiterals ls));
+        terms = ((ap (readCell S) (sym same) ∙ e ∙ ap (function f) (sym n), w .0), w .1);
+        literals = r .literals;
+        small = rw vars-join at (r .small);
+      }
+
+  pub positive-reads : (p k : ℕ) (ts : Terms) → readCell S c ≡ positive p k → count ts ≡ k → Reads S cs ts ls → Reads S (c ∷ cs) nil (pos p ts ∷ ls)
+  positive-reads p k ts e n r =
+      let same : c ≡ p = written-as S c (positive p k) e .0 in
+      record {
+        written = ap₂ _∷_ same (r .written);
+        terms = tt;
+        literals = ((ap (readCell S) (sym same) ∙ e ∙ ap (positive p) (sym n), r .terms), r .literals);
+        small = r .small;
+      }
+
+  pub negative-reads : (p k : ℕ) (ts : Terms) → readCell S c ≡ negative p k → count ts ≡ k → Reads S cs ts ls → Reads S (c ∷ cs) nil (neg p ts ∷ ls)
+  negative-reads p k ts e n r =
+      let same : c ≡ 16384 + p = written-as S c (negative p k) e .0 in
+      record {
+        written = ap₂ _∷_ same (r .written);
+        terms = tt;
+        literals = ((ap (readCell S) (sym same) ∙ e ∙ ap (negative p) (sym n), r .terms), r .literals);
+        small = r .small;
+      }
+
+-- What is read of cells, if anything, is their row.
 abbrev Sound : List Symbol → List ℕ → Option Row → Type 0
 Sound S cs none = Unit {0}
 Sound S cs (some (row ts ls)) = Reads S cs ts ls
@@ -247,71 +344,43 @@ unfolding takeOne
 takeOne-takes k t ts none h = tt
 takeOne-takes k t ts (some (taken front others)) h = (ap (cons t) (h .0), ap suc (h .1))
 
-pub takes : (k : ℕ) (ts : Terms) → Takes k ts (takeTerms k ts)
+takes : (k : ℕ) (ts : Terms) → Takes k ts (takeTerms k ts)
 unfolding takeTerms
 takes zero ts = (refl, refl)
 takes (suc k) nil = tt
 takes (suc k) (cons t ts) = takeOne-takes k t ts (takeTerms k ts) (takes k ts)
 
--- A cell in front of the terms that it takes.
-functor-reads :
-    (S : List Symbol) (f : ℕ) (cs : List ℕ) (front others : Terms) (ls : List Literal) → readCell S f ≡ function f (count front)
-    → Reads S cs (front +++ others) ls → Reads S (f ∷ cs) (cons (app f front) others) ls
-functor-reads S f cs front others ls e r =
-    let w = wf-split S front others (r .terms) in
-    record {
-      written = ap {B = List ℕ} (λ x. f ∷ x) (r .written ∙ write-join front others (writeLiterals ls));
-      terms = ((e, w .0), w .1);
-      literals = r .literals;
-      small = rw vars-join at (r .small);
-    }
-
-predicate-reads :
-    (S : List Symbol) (c : ℕ) (make : Terms → Literal) (cs : List ℕ) (front : Terms) (ls : List Literal)
-    → ((rest : List ℕ) → c ∷ writeTerms front rest ≡ writeLiteral (make front) rest) → arguments (make front) ≡ front → (WfTerms S front → WfLiteral S (make front))
-    → Reads S cs (front +++ nil) ls → Reads S (c ∷ cs) nil (make front ∷ ls)
-predicate-reads S c make cs front ls e a w r =
-    record {
-      written = ap {B = List ℕ} (λ x. c ∷ x) (r .written ∙ write-join front nil (writeLiterals ls)) ∙ e (writeLiterals ls);
-      terms = tt;
-      literals = (w (wf-split S front nil (r .terms) .0), r .literals);
-      small = rw (vars-join, ← a) at (r .small);
-    }
-
 putTerm-sound :
-    (S : List Symbol) (f k : ℕ) (cs : List ℕ) (ts : Terms) (ls : List Literal) (o : Option Taken) → readCell S f ≡ function f k → Takes k ts o → Reads S cs ts ls
-    → Sound S (f ∷ cs) (putTerm f ls o)
+    (S : List Symbol) (c : ℕ) (cs : List ℕ) (f k : ℕ) (ts : Terms) (ls : List Literal) (o : Option Taken) → readCell S c ≡ function f k → Takes k ts o
+    → Reads S cs ts ls → Sound S (c ∷ cs) (putTerm f ls o)
 unfolding putTerm
-putTerm-sound S f k cs ts ls none e h r = tt
-putTerm-sound S f k cs ts ls (some (taken front others)) e h r = functor-reads S f cs front others ls (e ∙ ap (function f) (sym (h .1))) (rw (h .0) at r)
+putTerm-sound S c cs f k ts ls none e h r = tt
+putTerm-sound S c cs f k ts ls (some (taken front others)) e h r = functor-reads S c cs ls f k front others e (h .1) (rw (h .0) at r)
 
 putLiteral-sound :
-    (S : List Symbol) (c k : ℕ) (make : Terms → Literal) → ((ts : Terms) (rest : List ℕ) → c ∷ writeTerms ts rest ≡ writeLiteral (make ts) rest)
-    → ((ts : Terms) → arguments (make ts) ≡ ts) → ((ts : Terms) → count ts ≡ k → WfTerms S ts → WfLiteral S (make ts))
-    → (cs : List ℕ) (ts : Terms) (ls : List Literal) (o : Option Taken) → Takes k ts o → Reads S cs ts ls → Sound S (c ∷ cs) (putLiteral make ls o)
+    (S : List Symbol) (c : ℕ) (cs : List ℕ) (make : Terms → Literal) (k : ℕ) (ts : Terms) (ls : List Literal) (o : Option Taken)
+    → ((us : Terms) → count us ≡ k → Reads S cs us ls → Reads S (c ∷ cs) nil (make us ∷ ls)) → Takes k ts o → Reads S cs ts ls
+    → Sound S (c ∷ cs) (putLiteral make ls o)
 unfolding putLiteral
-putLiteral-sound S c k make e a w cs ts ls none h r = tt
-putLiteral-sound S c k make e a w cs ts ls (some (taken front nil)) h r = predicate-reads S c make cs front ls (e front) (a front) (w front (h .1)) (rw (h .0) at r)
-putLiteral-sound S c k make e a w cs ts ls (some (taken front (cons u us))) h r = tt
+putLiteral-sound S c cs make k ts ls none next h r = tt
+putLiteral-sound S c cs make k ts ls (some (taken front nil)) next h r = next front (h .1) (rw (h .0 ∙ join-nil front) at r)
+putLiteral-sound S c cs make k ts ls (some (taken front (cons u us))) next h r = tt
 
-put-sound : (S : List Symbol) (c : ℕ) (cs : List ℕ) (cell : Cell) (o : Option Row) → readCell S c ≡ cell → Written cell c → Sound S cs o → Sound S (c ∷ cs) (putCell cell o)
+put-sound : (S : List Symbol) (c : ℕ) (cs : List ℕ) (cell : Cell) (o : Option Row) → readCell S c ≡ cell → Sound S cs o → Sound S (c ∷ cs) (putCell cell o)
 unfolding putCell
-put-sound S c cs cell none e w r = tt
-put-sound S c cs (variable v) (some (row ts ls)) e w r =
-    record { written = ap₂ _∷_ (w .0) (r .written); terms = (tt, r .terms); literals = r .literals; small = (w .1, r .small) }
-put-sound S c cs (function f k) (some (row ts ls)) e w r = rw w (putTerm-sound S f k cs ts ls (takeTerms k ts) (ap (readCell S) (sym w) ∙ e) (takes k ts) r)
-put-sound S c cs (positive p k) (some (row ts ls)) e w r =
-    putLiteral-sound S c k (pos p) (λ us rest. ap {B = List ℕ} (λ x. x ∷ writeTerms us rest) w) (λ us. refl)
-    (λ us n wu. (ap (readCell S) (sym w) ∙ e ∙ ap (positive p) (sym n), wu)) cs ts ls (takeTerms k ts) (takes k ts) r
-put-sound S c cs (negative p k) (some (row ts ls)) e w r =
-    putLiteral-sound S c k (neg p) (λ us rest. ap {B = List ℕ} (λ x. x ∷ writeTerms us rest) w) (λ us. refl)
-    (λ us n wu. (ap (readCell S) (sym w) ∙ e ∙ ap (negative p) (sym n), wu)) cs ts ls (takeTerms k ts) (takes k ts) r
-put-sound S c cs unknown (some (row ts ls)) e w r = tt
+put-sound S c cs cell none e r = tt
+put-sound S c cs (variable v) (some (row ts ls)) e r = variable-reads S c cs ls v ts e r
+put-sound S c cs (function f k) (some (row ts ls)) e r = putTerm-sound S c cs f k ts ls (takeTerms k ts) e (takes k ts) r
+put-sound S c cs (positive p k) (some (row ts ls)) e r =
+    putLiteral-sound S c cs (pos p) k ts ls (takeTerms k ts) (λ us. positive-reads S c cs ls p k us e) (takes k ts) r
+put-sound S c cs (negative p k) (some (row ts ls)) e r =
+    putLiteral-sound S c cs (neg p) k ts ls (takeTerms k ts) (λ us. negative-reads S c cs ls p k us e) (takes k ts) r
+put-sound S c cs unknown (some (row ts ls)) e r = tt
 
 row-sound : (S : List Symbol) (cs : List ℕ) → Sound S cs (readRow S cs)
 unfolding readRow
 row-sound S [] = record { written = refl; terms = tt; literals = tt; small = tt }
-row-sound S (c ∷ cs) = put-sound S c cs (readCell S c) (readRow S cs) refl (cell-written S c) (row-sound S cs)
+row-sound S (c ∷ cs) = put-sound S c cs (readCell S c) (readRow S cs) refl (row-sound S cs)
 
 pub row-reads : (S : List Symbol) (cs : List ℕ) (ts : Terms) (ls : List Literal) → readRow S cs ≡ some (row ts ls) → Reads S cs ts ls
 row-reads S cs ts ls e = subst (Sound S cs) e (row-sound S cs)

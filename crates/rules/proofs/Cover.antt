@@ -2,18 +2,18 @@
 -- deck a choice is covered after the evaluation exactly if it was before; and a query holds for a choice exactly if something left covers it.
 use Prim.Native.Nat.{ℕ, zero, suc, _<_}
 use mathlib.Core.Path.{_≡_, refl, sym, _∙_, ap, ap₂, subst, transport}
-use mathlib.Core.Logic.{_↔_, _⊎_, inl, inr, ∥∥₁-elim, ∥∥₁-prop, ∥∥₁-map, Iff·trans}
+use mathlib.Core.Logic.{_↔_, inl, inr, ∥∥₁-elim, ∥∥₁-prop, ∥∥₁-map, Iff·trans}
 use mathlib.Core.HLevel.{Unit-prop, ×-prop, ¬-prop, ⊥-prop}
 use mathlib.Core.List.{List, [], _∷_, _++_, List·Memᴰ·not-nil, List·Memᴰ·cases-cons, append-nil}
 use native.Mathlib.Omega.{arith}
 use lib.ListN.{length, getD}
 use Rattle.rules.specs.Syntax.{Literal, pos, neg, Deck, Goal, varsLiterals}
 use Rattle.rules.specs.Goals.{Marked, unmarked, appearing, variables, queryVariables, firstGoal}
-use Rattle.rules.specs.Evaluation.{finished, Level, Place, zeroth, Ended, ended, succeeded, stopped, evaluateLevel, Outcome, stopOf, outcome, evaluate}
+use Rattle.rules.specs.Evaluation.{finished, Level, zeroth, Ended, ended, succeeded, stopped, evaluateLevel, Outcome, stopOf, outcome, evaluate}
 use Rattle.rules.specs.Meaning.{Inds, inil, icons, Filling, evals, Atoms, Interpretation, Holds, Some, SatisfiesBy, Satisfies, individual, individuals, QueryHolds, CoversBy, Covers, SomeCovers}
 use Rattle.rules.specs.WellFormed.{InOrder}
-use Rattle.rules.proofs.Existence.{Existence, merely, atHand, Into, into-same, into-then, some-left, some-right, some-split}
-use Rattle.rules.proofs.NumberingLaws.{In, upTo, above, in-upTo, position-upTo, at-position, numbered-appearing, numbered-count, appearing-finds}
+use Rattle.rules.proofs.Existence.{Existence, merely, atHand, Into, some-left, some-right, some-split}
+use Rattle.rules.proofs.NumberingLaws.{upTo, above, in-upTo, position-upTo, at-position, numbered-appearing, numbered-count, appearing-finds}
 use Rattle.rules.proofs.Values.{AgreeOn, holds-on}
 use Rattle.rules.proofs.LevelSound.{Open, inAnswers, inPending, inParked, level, EndedSound, level-sound}
 
@@ -38,41 +38,42 @@ module _ (I : Atoms) (choice : Inds) where
 
   -- A level's goals as one list.
   module _ (l : Level) where
-    abbrev C : Marked → Type 0
-    C m = CoversBy I choice (m .goal)
+    abbrev Covering : Marked → Type 0
+    Covering m = CoversBy I choice (m .goal)
 
     to-list : Open I choice l → SomeCoversBy I choice (unmarked (l .answers) ++ (unmarked (l .pending) ++ l .parked))
-    to-list (inAnswers h) = some-left C (unmarked (l .answers)) _ (to-marked (l .answers) h)
-    to-list (inPending h) = some-right C (unmarked (l .answers)) _ (some-left C (unmarked (l .pending)) (l .parked) (to-marked (l .pending) h))
-    to-list (inParked h) = some-right C (unmarked (l .answers)) _ (some-right C (unmarked (l .pending)) (l .parked) h)
+    to-list (inAnswers h) = some-left Covering (unmarked (l .answers)) _ (to-marked (l .answers) h)
+    to-list (inPending h) = some-right Covering (unmarked (l .answers)) _ (some-left Covering (unmarked (l .pending)) (l .parked) (to-marked (l .pending) h))
+    to-list (inParked h) = some-right Covering (unmarked (l .answers)) _ (some-right Covering (unmarked (l .pending)) (l .parked) h)
 
     from-list : SomeCoversBy I choice (unmarked (l .answers) ++ (unmarked (l .pending) ++ l .parked)) → Open I choice l
-    from-list h = elim (some-split C (unmarked (l .answers)) (unmarked (l .pending) ++ l .parked) h) [
+    from-list h = elim (some-split Covering (unmarked (l .answers)) (unmarked (l .pending) ++ l .parked) h) [
       | inl a ↦ inAnswers (from-marked (l .answers) a)
-      | inr k ↦ elim (some-split C (unmarked (l .pending)) (l .parked) k) [ inl b ↦ inPending (from-marked (l .pending) b) | inr c ↦ inParked c ]
+      | inr k ↦ elim (some-split Covering (unmarked (l .pending)) (l .parked) k) [ inl b ↦ inPending (from-marked (l .pending) b) | inr c ↦ inParked c ]
     ]
 
--- THE EVALUATION, for both readings of "there is some".
-module _ (X : Existence) (I : Atoms) (deck : Deck) (sat : SatisfiesBy (X .M) I (deck .clauses)) (answerRoom storeSize : ℕ) (gs : List Goal) (ms : List Marked) (total : ℕ) where
-  pub record Evaluated (o : Outcome) : Type 0 where
-    pub covers : (choice : Inds) → Into X (SomeCoversBy I choice (unmarked gs ++ ms)) (SomeCoversBy I choice (remaining o))
-    pub emptied : o .stop ≡ finished → o .pending ≡ []
+-- THE EVALUATION, for both readings of "there is some": of the goals before it and what it comes to.
+pub record OutcomeSound (X : Existence) (I : Atoms) (before : List Marked) (o : Outcome) : Type 0 where
+  pub covers : (choice : Inds) → Into X (SomeCoversBy I choice before) (SomeCoversBy I choice (remaining o))
+  pub emptied : o .stop ≡ finished → o .pending ≡ []
 
-  pub evaluated : Evaluated (evaluate deck answerRoom storeSize gs ms total)
-  unfolding evaluate outcome stopOf
-  evaluated =
-      go (evaluateLevel (deck .clauses) answerRoom storeSize 32 zeroth (level gs ms []) total)
-      (level-sound X I (deck .clauses) sat answerRoom storeSize 32 zeroth (level gs ms []) total)
-    where
-      go : (e : Ended) → EndedSound X I zeroth (level gs ms []) e → Evaluated (outcome total e)
-      go (ended succeeded l left) h = absurd h
-      go (ended (stopped s) l left) h = record {
-        covers = λ choice. (
-          λ k. X .bind (h .0 .0 choice .0 (from-list I choice (level gs ms []) k)) (λ o. X .unit (to-list I choice l o)),
-          λ k. to-list I choice (level gs ms []) (h .0 .0 choice .1 (from-list I choice l k)),
-        );
-        emptied = h .1;
-      }
+pub outcome-sound :
+    (X : Existence) (I : Atoms) (deck : Deck) → SatisfiesBy (X .M) I (deck .clauses) → (answerRoom storeSize : ℕ) (gs : List Goal) (ms : List Marked) (total : ℕ)
+    → OutcomeSound X I (unmarked gs ++ ms) (evaluate deck answerRoom storeSize gs ms total)
+unfolding evaluate outcome stopOf
+outcome-sound X I deck sat answerRoom storeSize gs ms total =
+    go (evaluateLevel (deck .clauses) answerRoom storeSize 32 zeroth (level gs ms []) total)
+    (level-sound X I (deck .clauses) sat answerRoom storeSize 32 zeroth (level gs ms []) total)
+  where
+    go : (e : Ended) → EndedSound X I zeroth (level gs ms []) e → OutcomeSound X I (unmarked gs ++ ms) (outcome total e)
+    go (ended succeeded l left) h = absurd h
+    go (ended (stopped s) l left) h = record {
+      covers = λ choice. (
+        λ k. X .bind (h .0 .0 choice .0 (from-list I choice (level gs ms []) k)) (λ o. X .unit (to-list I choice l o)),
+        λ k. to-list I choice (level gs ms []) (h .0 .0 choice .1 (from-list I choice l k)),
+      );
+      emptied = h .1;
+    }
 
 -- By mere existence.
 some-merely : (I : Interpretation) (choice : Inds) (ms : List Marked) → SomeCovers I choice ms ↔ ∥ SomeCoversBy (I .atoms) choice ms ∥₁
@@ -89,23 +90,28 @@ some-merely I choice ms = (λ h. ∥∥₁-elim h ∥∥₁-prop (gather ms), λ
     spread (k ∷ ks) (inl h) = inl ∣ h ∣₁
     spread (k ∷ ks) (inr h) = inr (spread ks h)
 
+pub covers-merely :
+    (I : Interpretation) (choice : Inds) (ms ns : List Marked) → Into merely (SomeCoversBy (I .atoms) choice ms) (SomeCoversBy (I .atoms) choice ns)
+    → SomeCovers I choice ms ↔ SomeCovers I choice ns
+covers-merely I choice ms ns i =
+    let before = some-merely I choice ms in
+    let after = some-merely I choice ns in
+    (λ h. after .1 (∥∥₁-elim (before .0 h) ∥∥₁-prop (i .0)), λ h. before .1 (∥∥₁-map (after .0 h) (i .1)))
+
 module _ (deck : Deck) (answerRoom storeSize : ℕ) (gs : List Goal) (ms : List Marked) (total : ℕ) where
-  abbrev o : Outcome
-  o = evaluate deck answerRoom storeSize gs ms total
+  abbrev result : Outcome
+  result = evaluate deck answerRoom storeSize gs ms total
 
   -- In each interpretation that satisfies the completed deck, and for each choice, some goal covered the choice before exactly if some
   -- answer or open goal covers it after.
-  pub evaluate-covers : (I : Interpretation) → Satisfies I deck → (choice : Inds) → SomeCovers I choice (unmarked gs ++ ms) ↔ SomeCovers I choice (remaining o)
+  pub evaluate-covers : (I : Interpretation) → Satisfies I deck → (choice : Inds) → SomeCovers I choice (unmarked gs ++ ms) ↔ SomeCovers I choice (remaining result)
   unfolding Satisfies
   evaluate-covers I sat choice =
-      let i = evaluated merely (I .atoms) deck sat answerRoom storeSize gs ms total .covers choice in
-      let before = some-merely I choice (unmarked gs ++ ms) in
-      let after = some-merely I choice (remaining o) in
-      (λ h. after .1 (∥∥₁-elim (before .0 h) ∥∥₁-prop (i .0)), λ h. before .1 (∥∥₁-map (after .0 h) (i .1)))
+      covers-merely I choice (unmarked gs ++ ms) (remaining result) (outcome-sound merely (I .atoms) deck sat answerRoom storeSize gs ms total .covers choice)
 
   -- With the cover at hand, in a set of atoms in the wide sense.
-  pub evaluate-covers-by : (I : Atoms) → SatisfiesBy (λ A. A) I (deck .clauses) → (choice : Inds) → SomeCoversBy I choice (unmarked gs ++ ms) ↔ SomeCoversBy I choice (remaining o)
-  evaluate-covers-by I sat choice = evaluated atHand I deck sat answerRoom storeSize gs ms total .covers choice
+  pub evaluate-covers-by : (I : Atoms) → SatisfiesBy (λ A. A) I (deck .clauses) → (choice : Inds) → SomeCoversBy I choice (unmarked gs ++ ms) ↔ SomeCoversBy I choice (remaining result)
+  evaluate-covers-by I sat choice = outcome-sound atHand I deck sat answerRoom storeSize gs ms total .covers choice
 
 -- THE QUERY. Its first goal covers a choice exactly if it holds for it.
 inds-same : (us vs : Inds) → individuals us ≡ individuals vs → ((i : ℕ) → i < individuals us → individual us i ≡ individual vs i) → us ≡ vs
@@ -137,6 +143,11 @@ variables-same ν μ (x ∷ xs) e v h = elim (List·Memᴰ·cases-cons h) [
 upTo-at : (i n : ℕ) → i < n → getD (upTo n) i 0 ≡ i
 upTo-at i n l = ap (λ j. getD (upTo n) j 0) (sym (position-upTo i n l)) ∙ at-position i (in-upTo i n l)
 
+holds-prop : (I : Interpretation) (ν : Filling) (ls : List Literal) → IsProp (Holds (I .atoms) ν ls)
+holds-prop I ν [] = Unit-prop
+holds-prop I ν (pos p ts ∷ ls) = ×-prop (I .proposition p (evals ν ts)) (holds-prop I ν ls)
+holds-prop I ν (neg p ts ∷ ls) = ×-prop ¬-prop (holds-prop I ν ls)
+
 module _ (query : List Literal) (ordered : InOrder (varsLiterals query)) (choice : Inds) (many : individuals choice ≡ length (queryVariables query)) where
   -- The individuals of the choice, in order, are what it gives to the query's variables.
   choice-listed : evals (individual choice) (variables (queryVariables query)) ≡ choice
@@ -160,44 +171,40 @@ module _ (query : List Literal) (ordered : InOrder (varsLiterals query)) (choice
         transport (holds-on I (k .0) (individual choice) query (λ v h. same v (appearing-finds v [] h))) (k .2),
   )
 
-holds-prop : (I : Interpretation) (ν : Filling) (ls : List Literal) → IsProp (Holds (I .atoms) ν ls)
-holds-prop I ν [] = Unit-prop
-holds-prop I ν (pos p ts ∷ ls) = ×-prop (I .proposition p (evals ν ts)) (holds-prop I ν ls)
-holds-prop I ν (neg p ts ∷ ls) = ×-prop ¬-prop (holds-prop I ν ls)
+  -- So the query holds for the choice exactly if the first goal, alone in a list, covers it.
+  pub query-first : (I : Interpretation) → QueryHolds I query choice ↔ SomeCovers I choice (unmarked (firstGoal query ∷ []))
+  unfolding QueryHolds
+  query-first I =
+      let first = first-covers (I .atoms) in
+      let alone = some-merely I choice (unmarked (firstGoal query ∷ [])) in
+      (λ h. alone .1 ∣ inl (first .0 h) ∣₁, λ h. ∥∥₁-elim (alone .0 h) (holds-prop I (individual choice) query) (λ k. elim k [ inl c ↦ first .1 c | inr b ↦ absurd b ]))
 
-module _ (deck : Deck) (answerRoom storeSize : ℕ) (query : List Literal) (total : ℕ) where
-  abbrev pub asked : Outcome
-  asked = evaluate deck answerRoom storeSize (firstGoal query ∷ []) [] total
+  module _ (deck : Deck) (answerRoom storeSize total : ℕ) where
+    abbrev asked : Outcome
+    asked = evaluate deck answerRoom storeSize (firstGoal query ∷ []) [] total
 
-  module _ (ordered : InOrder (varsLiterals query)) (choice : Inds) (many : individuals choice ≡ length (queryVariables query)) where
     -- The query holds for the choice exactly if a listed answer or a goal left open covers it.
     pub query-covers : (I : Interpretation) → Satisfies I deck → QueryHolds I query choice ↔ SomeCovers I choice (remaining asked)
-    unfolding QueryHolds
-    query-covers I sat =
-        let first = first-covers query ordered choice many (I .atoms) in
-        let i = evaluate-covers deck answerRoom storeSize (firstGoal query ∷ []) [] total I sat choice in
-        let alone = some-merely I choice (unmarked (firstGoal query ∷ []) ++ []) in
-        (λ h. i .0 (alone .1 ∣ inl (first .0 h) ∣₁), λ h. ∥∥₁-elim (alone .0 (i .1 h)) (holds-prop I (individual choice) query) (λ k. elim k [ inl c ↦ first .1 c | inr b ↦ absurd b ]))
+    query-covers I sat = Iff·trans (query-first I) (evaluate-covers deck answerRoom storeSize (firstGoal query ∷ []) [] total I sat choice)
 
     pub query-covers-by : (I : Atoms) → SatisfiesBy (λ A. A) I (deck .clauses) → Holds I (individual choice) query ↔ SomeCoversBy I choice (remaining asked)
     query-covers-by I sat =
-        let first = first-covers query ordered choice many I in
+        let first = first-covers I in
         let i = evaluate-covers-by deck answerRoom storeSize (firstGoal query ∷ []) [] total I sat choice in
         (λ h. i .0 (inl (first .0 h)), λ h. elim (i .1 h) [ inl c ↦ first .1 c | inr b ↦ absurd b ])
 
     module _ (I : Interpretation) (sat : Satisfies I deck) (all : asked .stop ≡ finished) (nothing-parked : asked .parked ≡ []) where
-      -- Where a run finishes with nothing left open, every choice for which the query holds is covered by a listed answer.
-      pub finished-lists-all : QueryHolds I query choice → SomeCovers I choice (unmarked (asked .answers))
+      -- Where a run finishes with nothing left open, the choices for which the query holds are those that a listed answer covers.
+      pub finished-lists-all : QueryHolds I query choice ↔ SomeCovers I choice (unmarked (asked .answers))
       unfolding Satisfies
-      finished-lists-all h =
-          let e : asked .pending ≡ [] = evaluated merely (I .atoms) deck sat answerRoom storeSize (firstGoal query ∷ []) [] total .emptied all in
-          let k : SomeCovers I choice (remaining asked) = query-covers I sat .0 h in
+      finished-lists-all =
+          let e : asked .pending ≡ [] = outcome-sound merely (I .atoms) deck sat answerRoom storeSize (firstGoal query ∷ []) [] total .emptied all in
           let r : remaining asked ≡ unmarked (asked .answers) = rw (e, nothing-parked) (append-nil (unmarked (asked .answers))) in
-          subst (SomeCovers I choice) r k
+          subst (λ (ms : List Marked). QueryHolds I query choice ↔ SomeCovers I choice ms) r (query-covers I sat)
 
-      -- Where it lists no answer either, the query does not hold.
+      -- Where it lists no answer either, the query holds for no choice.
       pub no-means-none : asked .answers ≡ [] → ¬ QueryHolds I query choice
       unfolding SomeCovers
       no-means-none e h =
-          let k : SomeCovers I choice [] = rw e at (finished-lists-all h) in
+          let k : SomeCovers I choice [] = rw e at (finished-lists-all .0 h) in
           ∥∥₁-elim k ⊥-prop (λ b. b)

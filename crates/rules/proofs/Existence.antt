@@ -43,3 +43,10 @@ module _ {ℓ} {A : Type ℓ} (P : A → Type 0) where
   some-split [] ys h = inr h
   some-split (x ∷ xs) ys (inl h) = inl (inl h)
   some-split (x ∷ xs) ys (inr h) = elim (some-split xs ys h) [ inl a ↦ inl (inr a) | inr b ↦ inr b ]
+
+  -- Where the second list is changed and the first stays.
+  pub into-behind : (X : Existence) (xs ys zs : List A) → Into X (Some P ys) (Some P zs) → Into X (Some P (xs ++ ys)) (Some P (xs ++ zs))
+  into-behind X xs ys zs i = (
+    λ h. elim (some-split xs ys h) [ inl k ↦ X .unit (some-left xs zs k) | inr k ↦ X .bind (i .0 k) (λ m. X .unit (some-right xs zs m)) ],
+    λ h. elim (some-split xs zs h) [ inl k ↦ some-left xs ys k | inr k ↦ some-right xs ys (i .1 k) ],
+  )

@@ -1,27 +1,29 @@
--- The evaluation's recursion: how a level comes to its end, without the bounds of the definition; and what holds at the end of every level.
-use Prim.Native.Nat.{ℕ, zero, suc, _+_, _-_, _≤_, _<_}
-use mathlib.Core.Path.{_≡_, refl, sym, _∙_, ap}
-use mathlib.Core.Logic.{_≢_}
-use mathlib.Core.List.{List, [], _∷_, _++_}
+-- The evaluation's recursion: how a level comes to its end, as a relation without bounds (`Runs`); every level runs so, and to no other end;
+-- and so the equations of a level hold without the bound on its turns.
+use Prim.Native.Nat.{ℕ, zero, suc, _-_, _≤_, _<_}
+use mathlib.Core.Path.{_≡_, refl, _∙_}
+use mathlib.Core.List.{List, [], _∷_}
 use native.Mathlib.Omega.{arith}
 use Rattle.rules.specs.Syntax.{Clause, Goal}
 use Rattle.rules.specs.Goals.{Marked}
-use Rattle.rules.specs.Evaluation.{Stop, finished, budget, answers, store, Level, startLevel, Place, zeroth, deeper, Question, Next, halt, step, success, ask, Ending, succeeded, stopped, Ended, ended, Verdict, proved, refuted, unsettled, cut, Reply, reply, verdictOf, replyOf, close, proceed, decideBy, unasked, nextFrom, nextOf, turn, evaluateLevel}
-use Rattle.rules.proofs.NextLaws.{Acts, asks, Ahead, emptied, unpaid, unlisted, unstored, lists, parks, replaces, succeeds, inquires, ahead}
+use Rattle.rules.specs.Evaluation.{Stop, finished, budget, answers, store, Level, startLevel, Place, deeper, Question, Next, halt, step, success, ask, Ending, succeeded, stopped, Ended, ended, cut, Reply, reply, verdictOf, replyOf, close, proceed, decideBy, unasked, nextFrom, nextOf, turn, evaluateLevel}
+use Rattle.rules.proofs.NextLaws.{asks, Ahead, lists, parks, replaces, inquires, ahead}
 
+-- The stops that stop the levels above too.
 abbrev pub Unfinished : Stop → Type 0
 Unfinished finished = ⊥
 Unfinished budget = Unit {0}
 Unfinished answers = Unit {0}
 Unfinished store = Unit {0}
 
--- How a level comes to its end.
+-- How a level with so many levels below it, at a place, with so many steps left, comes to its end.
 pub data Runs (clauses : List Clause) (answerRoom storeSize : ℕ) : ℕ → Place → Level → ℕ → Ended → Type 0 where
   halts : {below left : ℕ} {at : Place} {l : Level} {s : Stop} → nextOf clauses answerRoom storeSize below at l left ≡ halt s
       → Runs clauses answerRoom storeSize below at l left (ended (stopped s) l left)
   steps : {below left : ℕ} {at : Place} {l l′ : Level} {e : Ended} → nextOf clauses answerRoom storeSize below at l left ≡ step l′
       → Runs clauses answerRoom storeSize below at l′ (left - 1) e
       → Runs clauses answerRoom storeSize below at l left e
+  -- A deeper level has succeeded.
   wins : {below left : ℕ} {at : Place} {l : Level} → nextOf clauses answerRoom storeSize below at l left ≡ success
       → Runs clauses answerRoom storeSize below at l left (ended succeeded l (left - 1))
   -- A new level has decided an atom, and this one goes on.
@@ -47,7 +49,6 @@ pub data Runs (clauses : List Clause) (answerRoom storeSize : ℕ) : ℕ → Pla
       → Runs clauses answerRoom storeSize (suc below) at l left (ended (stopped s) l m)
 
 module _ {clauses : List Clause} {answerRoom storeSize : ℕ} where
-  -- The steps left at the end are at most those at the start.
   pub runs-left : {below left m : ℕ} {at : Place} {l l′ : Level} {i : Ending} → Runs clauses answerRoom storeSize below at l left (ended i l′ m) → m ≤ left
   runs-left (halts n) = omega arith
   runs-left (steps n r) = omega (arith, runs-left r)
@@ -57,6 +58,7 @@ module _ {clauses : List Clause} {answerRoom storeSize : ℕ} where
   runs-left (unsettles n a f r) = omega (arith, runs-left a, runs-left r)
   runs-left (cuts n a f) = omega (arith, runs-left a)
 
+  -- What is known of what is next.
   pub next-ahead : {below left : ℕ} {at : Place} {l : Level} {n : Next} → nextOf clauses answerRoom storeSize below at l left ≡ n
       → Ahead clauses answerRoom storeSize below at l left n
   next-ahead {below} {left} {at} {l} e = rw e at (ahead clauses answerRoom storeSize below at l left)
@@ -73,6 +75,7 @@ module _ {clauses : List Clause} {answerRoom storeSize : ℕ} where
   pub ask-below : {left : ℕ} {at : Place} {l : Level} {q : Question} → Ahead clauses answerRoom storeSize 0 at l left (ask q) → ⊥
   ask-below (inquires p (asks e b) h) = omega arith
 
+  -- After a new level there are fewer steps left.
   pub asked-less : {below left m : ℕ} {at : Place} {l l′ : Level} {q : Question} {i : Ending} → Ahead clauses answerRoom storeSize (suc below) at l left (ask q)
       → Runs clauses answerRoom storeSize below (deeper (q .heldOutside)) (startLevel (q .goal)) (left - 1) (ended i l′ m) → m < left
   asked-less n a = omega (arith, runs-left a, ask-pays n)
@@ -100,7 +103,8 @@ module _ (clauses : List Clause) (answerRoom storeSize : ℕ) where
   BelowRun (suc n) = AllRun n
 
   level-turn : (below : ℕ) (at : Place) (l : Level) (left : ℕ)
-      → evaluateLevel clauses answerRoom storeSize below at l left ≡ turn clauses answerRoom storeSize (decides clauses answerRoom storeSize below) below at (suc left) l left
+      → evaluateLevel clauses answerRoom storeSize below at l left
+      ≡ turn clauses answerRoom storeSize (decides clauses answerRoom storeSize below) below at (suc left) l left
   unfolding evaluateLevel
   level-turn zero at l left = refl
   level-turn (suc below) at l left = refl
@@ -112,7 +116,8 @@ module _ (clauses : List Clause) (answerRoom storeSize : ℕ) where
 
     finished-runs : (n m : ℕ) (inner : Level) (q : Question) → AgainRuns (suc n) → nextOf clauses answerRoom storeSize (suc n) at l left ≡ ask q
         → Runs clauses answerRoom storeSize n (deeper (q .heldOutside)) (startLevel (q .goal)) (left - 1) (ended (stopped finished) inner m)
-        → (ks : List Marked) → inner .parked ≡ ks → Runs clauses answerRoom storeSize (suc n) at l left (close again l q (reply (verdictOf (stopped finished) ks) m))
+        → (ks : List Marked) → inner .parked ≡ ks
+        → Runs clauses answerRoom storeSize (suc n) at l left (close again l q (reply (verdictOf (stopped finished) ks) m))
     unfolding close verdictOf
     finished-runs n m inner q h e r [] k = refutes e r k (h (q .onRefuted) m (asked-less (next-ahead e) r))
     finished-runs n m inner q h e r (x ∷ ks) k = unsettles e r k (h (q .onUnsettled) m (asked-less (next-ahead e) r))
@@ -150,6 +155,15 @@ module _ (clauses : List Clause) (answerRoom storeSize : ℕ) where
   runs zero at l left = rw (level-turn zero at l left) (turn-runs zero tt at (suc left) l left (omega arith))
   runs (suc below) at l left = rw (level-turn (suc below) at l left) (turn-runs (suc below) (runs below) at (suc left) l left (omega arith))
 
+  pub level-runs : (below : ℕ) (at : Place) (l : Level) (left : ℕ) (e : Ended) → evaluateLevel clauses answerRoom storeSize below at l left ≡ e
+      → Runs clauses answerRoom storeSize below at l left e
+  level-runs below at l left e q = rw q at (runs below at l left)
+
+  -- The steps left at the end are at most those at the start.
+  pub steps-left : (below : ℕ) (at : Place) (l : Level) (left : ℕ) (i : Ending) (l′ : Level) (m : ℕ)
+      → evaluateLevel clauses answerRoom storeSize below at l left ≡ ended i l′ m → m ≤ left
+  steps-left below at l left i l′ m e = runs-left (level-runs below at l left (ended i l′ m) e)
+
   below-run : (below : ℕ) → BelowRun below
   below-run zero = tt
   below-run (suc below) = runs below
@@ -167,16 +181,21 @@ module _ (clauses : List Clause) (answerRoom storeSize : ℕ) where
       → (turns : ℕ) → left < turns → turn clauses answerRoom storeSize (decides clauses answerRoom storeSize below) below at turns l left ≡ e
   unfolding proceed close decideBy replyOf verdictOf
   runs-turn (halts {below} {left} {at} {l} n) turns h = turned below left at l turns h (λ k b. rw n)
-  runs-turn (steps {below} {left} {at} {l} n r) turns h = turned below left at l turns h (λ k b. rw n (runs-turn r k (omega (arith, step-pays (next-ahead n)))))
+  runs-turn (steps {below} {left} {at} {l} n r) turns h =
+      turned below left at l turns h (λ k b. rw n (runs-turn r k (omega (arith, step-pays (next-ahead n)))))
   runs-turn (wins {below} {left} {at} {l} n) turns h = turned below left at l turns h (λ k b. rw n)
   runs-turn (proves {below} {left} {at = at} {l} n a r) turns h =
-      turned (suc below) left at l turns h (λ k b. rw (n, level-turn, runs-turn a (suc (left - 1)) (omega arith)) (runs-turn r k (omega (arith, asked-less (next-ahead n) a))))
+      turned (suc below) left at l turns h
+      (λ k b. rw (n, level-turn, runs-turn a (suc (left - 1)) (omega arith)) (runs-turn r k (omega (arith, asked-less (next-ahead n) a))))
   runs-turn (refutes {below} {left} {at = at} {l} n a f r) turns h =
-      turned (suc below) left at l turns h (λ k b. rw (n, level-turn, runs-turn a (suc (left - 1)) (omega arith), f) (runs-turn r k (omega (arith, asked-less (next-ahead n) a))))
+      turned (suc below) left at l turns h
+      (λ k b. rw (n, level-turn, runs-turn a (suc (left - 1)) (omega arith), f) (runs-turn r k (omega (arith, asked-less (next-ahead n) a))))
   runs-turn (unsettles {below} {left} {at = at} {l} n a f r) turns h =
-      turned (suc below) left at l turns h (λ k b. rw (n, level-turn, runs-turn a (suc (left - 1)) (omega arith), f) (runs-turn r k (omega (arith, asked-less (next-ahead n) a))))
+      turned (suc below) left at l turns h
+      (λ k b. rw (n, level-turn, runs-turn a (suc (left - 1)) (omega arith), f) (runs-turn r k (omega (arith, asked-less (next-ahead n) a))))
   runs-turn (cuts {below} {left} {at = at} {l} {inner} {s = s} n a f) turns h =
-      turned (suc below) left at l turns h (λ k b. rw (n, level-turn, runs-turn a (suc (left - 1)) (omega arith), cut-verdict s (inner .parked) f))
+      turned (suc below) left at l turns h
+      (λ k b. rw (n, level-turn, runs-turn a (suc (left - 1)) (omega arith), cut-verdict s (inner .parked) f))
 
   -- A level that runs to an end is evaluated to it.
   pub runs-level : {below left : ℕ} {at : Place} {l : Level} {e : Ended} → Runs clauses answerRoom storeSize below at l left e
@@ -186,7 +205,8 @@ module _ (clauses : List Clause) (answerRoom storeSize : ℕ) where
   -- THE EQUATIONS OF A LEVEL, without a bound on its turns.
   pub level-unfolds : (below : ℕ) (at : Place) (l : Level) (left : ℕ)
       → evaluateLevel clauses answerRoom storeSize below at l left
-      ≡ proceed (evaluateLevel clauses answerRoom storeSize below at) (decides clauses answerRoom storeSize below) l left (nextOf clauses answerRoom storeSize below at l left)
+      ≡ proceed (evaluateLevel clauses answerRoom storeSize below at) (decides clauses answerRoom storeSize below) l left
+      (nextOf clauses answerRoom storeSize below at l left)
   level-unfolds below at l left =
       runs-level (proceed-runs at (evaluateLevel clauses answerRoom storeSize below at) l left below (below-run below) (λ l′ m h. runs below at l′ m)
       (nextOf clauses answerRoom storeSize below at l left) refl)

@@ -2,17 +2,17 @@
 -- shows that it is not (Clark's theorem 2), so that a negative literal's step keeps the cover.
 use Prim.Native.Nat.{ℕ, zero, suc, _+_, _-_}
 use mathlib.Core.Path.{_≡_, refl, sym, _∙_, subst}
-use mathlib.Core.Logic.{_↔_, _≢_, _⊎_, inl, inr}
+use mathlib.Core.Logic.{_↔_, _≢_, inl, inr}
 use mathlib.Core.Bool.{Bool, true, false}
 use mathlib.Core.List.{List, [], _∷_, _++_, List·Memᴰ·not-nil}
 use native.Mathlib.Omega.{arith}
 use lib.Dec.{leb}
-use Rattle.rules.specs.Terms.{Terms, nil, varsTerms}
+use Rattle.rules.specs.Terms.{Terms, nil}
 use Rattle.rules.specs.Syntax.{Literal, pos, neg, Clause, Goal}
 use Rattle.rules.specs.Goals.{Mark, undecided, Marked, marked, goalWords, wordsOf}
 use Rattle.rules.specs.Resolution.{Selection, nothing, positive, negative, select, resolvents, anyOversized}
-use Rattle.rules.specs.Evaluation.{Stop, finished, budget, answers, store, Level, startLevel, withPending, withParked, withAnswer, Place, zeroth, deeper, held, Act, noLiterals, park, derive, decide, deriveAct, decideAct, selectedAct, literalsAct, actOf, Question, question, Next, halt, step, success, ask, answerStep, actStep, unlessOver, checkStore, Ending, succeeded, stopped, Ended, ended, Verdict, proved, refuted, unsettled, cut, Reply, reply, verdictOf, replyOf, close, proceed, decideBy, unasked, nextFrom, nextOf, turn, evaluateLevel}
-use Rattle.rules.specs.Meaning.{Ind, Inds, node, inil, Filling, evals, Atoms, Holds, Some, SatisfiesBy, CoversBy}
+use Rattle.rules.specs.Evaluation.{finished, budget, answers, store, Level, startLevel, withPending, withParked, withAnswer, Place, zeroth, deeper, held, Act, noLiterals, park, derive, decide, deriveAct, decideAct, selectedAct, literalsAct, actOf, Question, question, Next, halt, step, success, ask, answerStep, actStep, unlessOver, checkStore, succeeded, stopped, Ended, ended, Verdict, proved, refuted, unsettled, cut, Reply, reply, verdictOf, replyOf, close, proceed, decideBy, unasked, nextFrom, nextOf, turn, evaluateLevel}
+use Rattle.rules.specs.Meaning.{Inds, node, inil, Filling, evals, Atoms, Holds, Some, SatisfiesBy, CoversBy}
 use Rattle.rules.proofs.Existence.{Existence, Into, into-same, into-then, some-left, some-right, some-split}
 use Rattle.rules.proofs.SelectLaws.{Selected, select-selected}
 use Rattle.rules.proofs.Values.{evals-on, holds-append}
@@ -29,7 +29,7 @@ pub data Open (I : Atoms) (choice : Inds) (l : Level) : Type 0 where
   inParked : Some (λ m. CoversBy I choice (m .goal)) (l .parked) → Open I choice l
 
 abbrev pub level : List Goal → List Marked → List Goal → Level
-level gs ms as′ = record { pending = gs; parked = ms; answers = as′ }
+level gs ms hs = record { pending = gs; parked = ms; answers = hs }
 
 -- WHAT AN ACT SAYS OF ITS GOAL
 module _ (X : Existence) (I : Atoms) where
@@ -342,14 +342,17 @@ module _ (X : Existence) (I : Atoms) (clauses : List Clause) (sat : SatisfiesBy 
   -- Clark's theorem 2, for a new level on an atom: if it succeeds the atom is true under some filling of its variables (it has none where a
   -- level starts), and if it finishes with nothing parked the atom is false under every one.
   module _ (below outer : ℕ) (p : ℕ) (ts : Terms) (left m : ℕ) where
-    abbrev replied : Reply
-    replied = replyOf (evaluateLevel clauses answerRoom storeSize below (deeper outer) (startLevel (goalOf nil (pos p ts ∷ []))) left)
+    abbrev atom : Goal
+    atom = goalOf nil (pos p ts ∷ [])
 
-    atom-sound : ReplySound X I (goalOf nil (pos p ts ∷ [])) replied
-    atom-sound = reply-sound X I outer (goalOf nil (pos p ts ∷ [])) _ (level-sound below (deeper outer) (startLevel (goalOf nil (pos p ts ∷ []))) left)
+    abbrev replied : Reply
+    replied = replyOf (evaluateLevel clauses answerRoom storeSize below (deeper outer) (startLevel atom) left)
+
+    atom-sound : ReplySound X I atom replied
+    atom-sound = reply-sound X I outer atom _ (level-sound below (deeper outer) (startLevel atom) left)
 
     pub level-proves : replied ≡ reply proved m → (ν : Filling) × I p (evals ν ts)
-    level-proves e = let h : Possible I (goalOf nil (pos p ts ∷ [])) = subst (ReplySound X I (goalOf nil (pos p ts ∷ []))) e atom-sound in (h .1 .0, h .1 .2 .0)
+    level-proves e = let h : Possible I atom = subst (ReplySound X I atom) e atom-sound in (h .1 .0, h .1 .2 .0)
 
     pub level-refutes : replied ≡ reply refuted m → (ν : Filling) → ¬ I p (evals ν ts)
-    level-refutes e ν a = let h : ¬ Possible I (goalOf nil (pos p ts ∷ [])) = subst (ReplySound X I (goalOf nil (pos p ts ∷ []))) e atom-sound in h (inil, (ν, refl, (a, tt)))
+    level-refutes e ν a = let h : ¬ Possible I atom = subst (ReplySound X I atom) e atom-sound in h (inil, (ν, refl, (a, tt)))

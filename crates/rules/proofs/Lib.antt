@@ -7,6 +7,7 @@ pub mod UnifyLaws
 pub mod CellLaws
 pub mod GoalLaws
 pub mod DeckLaws
+pub mod ForwardLaws
 pub mod NumberingLaws
 pub mod LevelLaws
 pub mod Keeps
@@ -18,8 +19,14 @@ pub mod Renaming
 pub mod ResolventSound
 pub mod LevelSound
 pub mod Cover
+pub mod Continued
+pub mod Demand3
 pub mod DeckWords
+pub mod EndLaws
 pub mod Existence
 pub mod FirstGoal
 pub mod NextLaws
+pub mod RowChecks
+pub mod RowWalk
 pub mod SelectLaws
+pub mod SkipLaws

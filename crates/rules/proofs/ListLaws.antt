@@ -1,11 +1,10 @@
--- Lists all of whose elements have a property, and the words of lists of goals put together.
-use mathlib.Core.Path.{_≡_, refl}
+-- Lists all of whose elements have a property, and how many goals there are.
+use mathlib.Core.Path.{_≡_, refl, ap}
 use mathlib.Core.List.{List, [], _∷_, _++_, map}
-use Prim.Native.Nat.{_+_}
-use native.Mathlib.Omega.{arith}
+use Prim.Native.Nat.{suc}
 use lib.ListN.{length}
 use Rattle.rules.specs.Syntax.{Goal}
-use Rattle.rules.specs.Goals.{Marked, wordsOf, markedWords, unmarked}
+use Rattle.rules.specs.Goals.{unmarked}
 use Rattle.rules.specs.WellFormed.{All}
 
 module _ {ℓ} {A : Type ℓ} (P : A → Type 0) where
@@ -38,19 +37,6 @@ pub all-map {ℓ κ} : {A : Type ℓ} {B : Type κ} (P : B → Type 0) (f : A �
 all-map P f [] a = tt
 all-map P f (x ∷ xs) a = (a .0, all-map P f xs (a .1))
 
--- The words that goals take.
-pub words-append : (gs hs : List Goal) → wordsOf (gs ++ hs) ≡ wordsOf gs + wordsOf hs
-words-append [] hs = omega arith
-words-append (g ∷ gs) hs = omega (arith, words-append gs hs)
-
-pub marked-append : (ms ns : List Marked) → markedWords (ms ++ ns) ≡ markedWords ms + markedWords ns
-marked-append [] ns = omega arith
-marked-append (m ∷ ms) ns = omega (arith, marked-append ms ns)
-
-pub words-unmarked : (gs : List Goal) → markedWords (unmarked gs) ≡ wordsOf gs
-words-unmarked [] = refl
-words-unmarked (g ∷ gs) = omega (arith, words-unmarked gs)
-
 pub length-unmarked : (gs : List Goal) → length (unmarked gs) ≡ length gs
 length-unmarked [] = refl
-length-unmarked (g ∷ gs) = omega (arith, length-unmarked gs)
+length-unmarked (g ∷ gs) = ap suc (length-unmarked gs)

@@ -9,10 +9,11 @@ use Rattle.rules.specs.Terms.{Terms}
 use Rattle.rules.specs.Syntax.{Literal, Clause, Goal}
 use Rattle.rules.specs.Goals.{Mark, floundered, oversized, deep, goalWords, wordsOf}
 use Rattle.rules.specs.Resolution.{Selection, nothing, positive, negative, select, resolvents, anyOversized}
-use Rattle.rules.specs.Evaluation.{Stop, finished, budget, answers, store, Level, withPending, withParked, withAnswer, Place, zeroth, deeper, held, Act, noLiterals, park, derive, decide, deriveAct, decideAct, selectedAct, literalsAct, actOf, Question, question, Next, halt, step, success, ask, answerStep, actStep, unlessOver, checkStore, nextFrom, nextOf}
+use Rattle.rules.specs.Evaluation.{finished, budget, answers, store, Level, withPending, withParked, withAnswer, Place, zeroth, deeper, held, Act, noLiterals, park, derive, decide, deriveAct, decideAct, selectedAct, literalsAct, actOf, question, Next, halt, step, success, ask, answerStep, actStep, unlessOver, checkStore, nextFrom, nextOf}
 
 -- What holds either way of a test holds of the choice.
-pub either : {X : Type 0} (Q : X → Type 0) (b : Bool) (x y : X) → (b ≡ true → Q x) → (b ≡ false → Q y) → Q (elim b as (λ _. X) [ true ↦ x | false ↦ y ])
+pub either : {X : Type 0} (Q : X → Type 0) (b : Bool) (x y : X) → (b ≡ true → Q x) → (b ≡ false → Q y)
+    → Q (elim b as (λ _. X) [ true ↦ x | false ↦ y ])
 either Q true x y h k = h refl
 either Q false x y h k = k refl
 
@@ -39,7 +40,9 @@ module _ (clauses : List Clause) (g : Goal) where
   selected-acts : (below : ℕ) (s : Selection) → select (g .literals) ≡ s → Acts clauses below g (selectedAct clauses below g s)
   unfolding selectedAct deriveAct
   selected-acts below nothing e = flounders e
-  selected-acts below (positive before p ts after) e = either (Acts clauses below g) (anyOversized (resolvents clauses g before p ts after)) _ _ (overflows e) (resolves e)
+  selected-acts below (positive before p ts after) e =
+      either (Acts clauses below g) (anyOversized (resolvents clauses g before p ts after)) _ _
+      (overflows e) (resolves e)
   selected-acts below (negative before p ts after) e = decide-acts below before p ts after e
 
   literals-acts : (below : ℕ) (ls : List Literal) → g .literals ≡ ls → Acts clauses below g (literalsAct clauses below g ls)
@@ -83,7 +86,9 @@ module _ (clauses : List Clause) (answerRoom storeSize below : ℕ) where
     within : (words : ℕ) (n : Next) → (words ≤ storeSize → Ahead clauses answerRoom storeSize below at l (suc left) n)
         → Ahead clauses answerRoom storeSize below at l (suc left) (unlessOver storeSize words n)
     unfolding unlessOver
-    within words n h = either (Ahead clauses answerRoom storeSize below at l (suc left)) (leb words storeSize) n (halt store) (λ e. h (leb-true words storeSize e)) (λ _. unstored p)
+    within words n h =
+        either (Ahead clauses answerRoom storeSize below at l (suc left)) (leb words storeSize) n (halt store)
+        (λ e. h (leb-true words storeSize e)) (λ _. unstored p)
 
   answer-ahead : (at : Place) (l : Level) (left : ℕ) (g : Goal) (gs : List Goal) → l .pending ≡ g ∷ gs → Acts clauses below g noLiterals
       → Ahead clauses answerRoom storeSize below at l (suc left) (checkStore storeSize at (answerStep answerRoom at l g gs))
@@ -91,7 +96,8 @@ module _ (clauses : List Clause) (answerRoom storeSize below : ℕ) where
   answer-ahead zeroth l left g gs p a =
       either (λ n. Ahead clauses answerRoom storeSize below zeroth l (suc left) (checkStore storeSize zeroth n))
       (leb (wordsOf (l .answers) + goalWords g) answerRoom) (step (withAnswer g gs l)) (halt answers)
-      (λ e. within zeroth l left g gs p (held zeroth (withAnswer g gs l)) (step (withAnswer g gs l)) (lists p a (leb-true (wordsOf (l .answers) + goalWords g) answerRoom e)))
+      (λ e. within zeroth l left g gs p (held zeroth (withAnswer g gs l)) (step (withAnswer g gs l))
+      (lists p a (leb-true (wordsOf (l .answers) + goalWords g) answerRoom e)))
       (λ e. unlisted p a (leb-false (wordsOf (l .answers) + goalWords g) answerRoom e))
   answer-ahead (deeper outer) l left g gs p a = succeeds p a
 

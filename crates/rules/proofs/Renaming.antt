@@ -1,15 +1,16 @@
 -- What a goal covers under a filling: with its terms changed, with fresh variables beside its own, and renumbered.
 use Prim.Native.Nat.{ℕ, _+_, _-_, _≤_, _<_}
-use mathlib.Core.Path.{_≡_, refl, sym, _∙_, ap, ap₂, fun-ext, transport}
+use mathlib.Core.Path.{_≡_, sym, _∙_, ap, ap₂, fun-ext, transport}
 use mathlib.Core.Logic.{ite, if-pos, if-neg, _↔_}
-use mathlib.Core.List.{List, [], _++_}
+use mathlib.Core.List.{List, []}
 use native.Mathlib.Decide.{decLt}
 use native.Mathlib.Omega.{arith}
 use lib.ListN.{getD}
 use Rattle.rules.specs.Terms.{Terms, renames}
-use Rattle.rules.specs.Syntax.{Literal, Goal, mapGoal, varsLiterals, varsGoal, topGoal}
+use Rattle.rules.specs.Syntax.{Goal, mapGoal, varsLiterals, varsGoal, topGoal}
 use Rattle.rules.specs.Goals.{appearing, position, renumber}
-use Rattle.rules.specs.Meaning.{Ind, Inds, Filling, evals, Atoms, Holds, CoversBy}
+use Rattle.rules.specs.Resolution.{fresh}
+use Rattle.rules.specs.Meaning.{Inds, Filling, evals, Atoms, Holds, CoversBy}
 use Rattle.rules.proofs.NumberingLaws.{at-position, appearing-finds}
 use Rattle.rules.proofs.Values.{AgreeOn, evals-on, evals-below, renames-eval, holds-map, holds-on, holds-below}
 
@@ -32,15 +33,23 @@ module _ (I : Atoms) (choice : Inds) (g : Goal) (ν μ : Filling) where
       ap₂ (λ (A B : Type 0). A × B) (ap (λ (us : Inds). us ≡ choice) (evals-below ν μ N same (g .answers) (omega arith)))
       (holds-below I ν μ N same (g .literals) (omega arith))
 
--- Fresh variables: ν for those below N, μ for those from N on.
+-- Fresh variables: ν for the goal's, which are below N, and μ for the clause's, from N on.
 abbrev pub merge : ℕ → Filling → Filling → Filling
 merge N ν μ v = ite (decLt v N) (ν v) (μ (v - N))
 
 pub merge-below : (N : ℕ) (ν μ : Filling) (v : ℕ) → v < N → ν v ≡ merge N ν μ v
 merge-below N ν μ v h = sym (if-pos (decLt v N) h (ν v) (μ (v - N)))
 
-pub merge-from : (N : ℕ) (ν μ : Filling) → (λ v. merge N ν μ (N + v)) ≡ μ
-merge-from N ν μ = fun-ext (λ v. if-neg (decLt (N + v) N) (λ h. omega arith) (ν (N + v)) (μ ((N + v) - N)) ∙ ap μ (omega arith))
+-- So a clause with fresh variables has the values that it has under μ.
+pub fresh-merge : (N : ℕ) (ν μ : Filling) (ts : Terms) → evals (merge N ν μ) (fresh N ts) ≡ evals μ ts
+fresh-merge N ν μ ts = renames-eval (merge N ν μ) (λ v. N + v) ts ∙ ap (λ (κ : Filling). evals κ ts) (fun-ext from)
+  where
+    from : (v : ℕ) → merge N ν μ (N + v) ≡ μ v
+    from v = if-neg (decLt (N + v) N) (λ h. omega arith) (ν (N + v)) (μ ((N + v) - N)) ∙ ap μ (omega arith)
+
+-- And under any filling it has the values of some filling of its own.
+pub fresh-own : (N : ℕ) (ν : Filling) → (μ : Filling) × ((ts : Terms) → evals ν (fresh N ts) ≡ evals μ ts)
+fresh-own N ν = ((λ v. ν (N + v)), renames-eval ν (λ v. N + v))
 
 -- Renumbering keeps what a goal covers.
 pub renumber-covers : (I : Atoms) (choice : Inds) (g : Goal) → CoversBy I choice (renumber g) ↔ CoversBy I choice g

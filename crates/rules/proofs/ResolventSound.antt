@@ -1,5 +1,5 @@
 -- A goal covers what its resolvents cover together (Clark's theorem 1).
-use Prim.Native.Nat.{ℕ, _+_, max, _≤_}
+use Prim.Native.Nat.{ℕ, _≤_}
 use mathlib.Core.Path.{_≡_, refl, sym, _∙_, ap, subst, transport}
 use mathlib.Core.Logic.{_↔_, _⊎_, inl, inr}
 use mathlib.Core.Bool.{Bool, true, false}
@@ -9,18 +9,27 @@ use native.Mathlib.Omega.{arith}
 use lib.Dec.{eqb}
 use borrow.Author.Tests.{eqb-true, eqb-false}
 use Rattle.rules.specs.Terms.{Terms, tops}
-use Rattle.rules.specs.Syntax.{Literal, pos, neg, Clause, Goal, mapLiterals, mapGoal, topLiterals, topGoal}
-use Rattle.rules.specs.Unification.{Substitution, Unification, fails, spent, solved, applys, unify}
+use Rattle.rules.specs.Syntax.{Literal, pos, Clause, Goal, mapLiterals, mapGoal, topLiterals, topGoal}
+use Rattle.rules.specs.Unification.{Unification, fails, spent, solved, applys, unify}
 use Rattle.rules.specs.Resolution.{clausesAbout, fresh, place, resolved, resolvent, keepSome, collect, resolvents}
-use Rattle.rules.specs.Meaning.{Ind, Inds, Filling, evals, Atoms, Holds, Some, Gives, SatisfiesBy, CoversBy}
+use Rattle.rules.specs.Meaning.{Inds, Filling, evals, Atoms, Holds, Some, Gives, SatisfiesBy, CoversBy}
 use Rattle.rules.proofs.UnifyLaws.{unify-unspent}
 use Rattle.rules.proofs.Existence.{Existence, Into}
-use Rattle.rules.proofs.Values.{evals-below, renames-eval, holds-append, holds-map}
-use Rattle.rules.proofs.UnifySound.{Solves, Agrees, extend, extend-same, applys-eval, unify-fails, unify-solves, unify-extends}
-use Rattle.rules.proofs.Renaming.{CoversAt, covers-map, covers-below, merge, merge-below, merge-from, renumber-covers}
+use Rattle.rules.proofs.Values.{evals-below, holds-append, holds-map}
+use Rattle.rules.proofs.UnifySound.{Solves, extend, extend-same, applys-eval, unify-fails, unify-solves, unify-extends}
+use Rattle.rules.proofs.Renaming.{CoversAt, covers-map, covers-below, merge, merge-below, fresh-merge, fresh-own, renumber-covers}
 
 abbrev pub goalOf : Terms → List Literal → Goal
 goalOf ts ls = record { answers = ts; literals = ls }
+
+-- The literals of a resolvent hold exactly if those of the goal around the selected one and the clause's body do.
+pub place-holds :
+    (I : Atoms) (ν : Filling) (before body after : List Literal)
+    → Holds I ν (place before body after) ↔ (Holds I ν before × Holds I ν body × Holds I ν after)
+place-holds I ν before body after =
+    let outer = holds-append I ν before (body ++ after) in
+    let inner = holds-append I ν body after in
+    (λ h. (outer .0 h .0, inner .0 (outer .0 h .1) .0, inner .0 (outer .0 h .1) .1), λ h. outer .1 (h .0, inner .1 (h .1, h .2)))
 
 module _ (I : Atoms) (choice : Inds) where
   abbrev pub CoversOption : Option Goal → Type 0
@@ -78,12 +87,6 @@ module _ (I : Atoms) (choice : Inds) where
     abbrev Rest : Filling → Type 0
     Rest ν = (evals ν ans ≡ choice) × Holds I ν before × Holds I ν after
 
-    fresh-evals : (ν : Filling) (us : Terms) → evals ν (fresh N us) ≡ evals (λ v. ν (N + v)) us
-    fresh-evals ν us = renames-eval ν (λ v. N + v) us
-
-    fresh-holds : (ν : Filling) (ls : List Literal) → Holds I ν (mapLiterals (fresh N) ls) ≡ Holds I (λ v. ν (N + v)) ls
-    fresh-holds ν ls = holds-map I ν (λ v. ν (N + v)) (fresh N) (fresh-evals ν) ls
-
     -- What a clause gives, its resolvent covers; and what the resolvent covers, the clause gives.
     clause-covers :
         (c : Clause) (ν : Filling) → tops ts ≤ N → topGoal selected ≤ N → CoversAt I choice selected ν → Gives I p (evals ν ts) c
@@ -91,13 +94,10 @@ module _ (I : Atoms) (choice : Inds) where
     unfolding resolvent
     clause-covers c ν low lows k gives =
         resolved-covers ts (fresh N (c .arguments)) (goalOf ans (place before (mapLiterals (fresh N) (c .body)) after)) .1
-        (κ, solves, (all .0, holds-append I κ before (mapLiterals (fresh N) (c .body) ++ after) .1 (parts .0, holds-append I κ (mapLiterals (fresh N) (c .body)) after .1 (body, parts .1 .1))))
+        (κ, solves, (all .0, place-holds I κ before (mapLiterals (fresh N) (c .body)) after .1 (parts .0, body, parts .1 .1)))
       where
         κ : Filling
         κ = merge N ν (gives .0)
-
-        from : (λ v. κ (N + v)) ≡ gives .0
-        from = merge-from N ν (gives .0)
 
         all : CoversAt I choice selected κ
         all = transport (covers-below I choice selected ν κ N (merge-below N ν (gives .0)) lows) k
@@ -106,25 +106,21 @@ module _ (I : Atoms) (choice : Inds) where
         parts = holds-append I κ before (pos p ts ∷ after) .0 (all .1)
 
         solves : Solves κ ts (fresh N (c .arguments))
-        solves =
-            sym (evals-below ν κ N (merge-below N ν (gives .0)) ts low)
-            ∙ sym (gives .2)
-            ∙ ap (λ (μ : Filling). evals μ (c .arguments)) (sym from)
-            ∙ sym (fresh-evals κ (c .arguments))
+        solves = sym (evals-below ν κ N (merge-below N ν (gives .0)) ts low) ∙ sym (gives .2) ∙ sym (fresh-merge N ν (gives .0) (c .arguments))
 
         body : Holds I κ (mapLiterals (fresh N) (c .body))
-        body = transport (sym (fresh-holds κ (c .body))) (subst (λ (μ : Filling). Holds I μ (c .body)) (sym from) (gives .3))
+        body = transport (sym (holds-map I κ (gives .0) (fresh N) (fresh-merge N ν (gives .0)) (c .body))) (gives .3)
 
     clause-gives : (c : Clause) → c .predicate ≡ p → CoversOption (resolvent N ans before ts after c) → (ν : Filling) × Rest ν × Gives I p (evals ν ts) c
     unfolding resolvent
     clause-gives c e k =
         let h = resolved-covers ts (fresh N (c .arguments)) (goalOf ans (place before (mapLiterals (fresh N) (c .body)) after)) .0 k in
         let ν : Filling = h .0 in
-        let a = holds-append I ν before (mapLiterals (fresh N) (c .body) ++ after) .0 (h .2 .1) in
-        let b = holds-append I ν (mapLiterals (fresh N) (c .body)) after .0 (a .1) in (
+        let parts = place-holds I ν before (mapLiterals (fresh N) (c .body)) after .0 (h .2 .1) in
+        let own = fresh-own N ν in (
           ν,
-          (h .2 .0, a .0, b .1),
-          ((λ v. ν (N + v)), e, sym (fresh-evals ν (c .arguments)) ∙ sym (h .1), transport (fresh-holds ν (c .body)) (b .0)),
+          (h .2 .0, parts .0, parts .2),
+          (own .0, e, sym (own .1 (c .arguments)) ∙ sym (h .1), transport (holds-map I ν (own .0) (fresh N) (own .1) (c .body)) (parts .1)),
         )
 
     -- The clauses in turn.
@@ -156,13 +152,13 @@ module _ (I : Atoms) (choice : Inds) (clauses : List Clause) (g : Goal) (before 
   resolvents-cover ν k gives =
       let l : List Literal = before ++ (pos p ts ∷ after) in
       let t : topLiterals (g .literals) ≡ topLiterals l = ap topLiterals e in
-      all-cover I choice (topGoal g) (g .answers) before p ts after clauses ν (omega (arith, top-selected before p ts after)) (omega arith) (k .0, subst (Holds I ν) e (k .1)) gives
+      all-cover I choice _ (g .answers) before p ts after clauses ν (omega (arith, top-selected before p ts after)) (omega arith) (k .0, subst (Holds I ν) e (k .1)) gives
 
   -- What a resolvent covers, the goal covers, if the atoms that the clauses give are true.
   pub resolvents-give : ((us : Inds) → Some (Gives I p us) clauses → I p us) → Some (CoversBy I choice) (resolvents clauses g before p ts after) → CoversBy I choice g
   unfolding resolvents
   resolvents-give true-atoms k =
-      let r = all-give I choice (topGoal g) (g .answers) before p ts after clauses k in
+      let r = all-give I choice _ (g .answers) before p ts after clauses k in
       let ν : Filling = r .0 in
       (ν, r .1 .0, subst (Holds I ν) (sym e) (holds-append I ν before (pos p ts ∷ after) .1 (r .1 .1, (true-atoms (evals ν ts) (r .2), r .1 .2))))
 

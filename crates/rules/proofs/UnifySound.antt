@@ -1,13 +1,13 @@
 -- Unification is sound: it fails only where no filling makes the equations true, and where it succeeds the fillings that do are those that
 -- agree with its eliminations. That it does come to an end is `unify-found`.
-use Prim.Native.Nat.{ℕ, zero, suc, _<_}
+use Prim.Native.Nat.{ℕ, zero, suc}
 use mathlib.Core.Path.{_≡_, refl, sym, _∙_, ap, ap₂, subst}
 use mathlib.Core.Logic.{dite, _↔_}
 use native.Mathlib.Decide.{ℕ-discrete}
 use native.Mathlib.Omega.{arith}
 use Rattle.rules.specs.Terms.{Term, Terms, var, app, nil, cons, sub, subs, occ, occs, sizes, _+++_, count}
-use Rattle.rules.specs.Unification.{Substitution, done, bind, apply, applys, Unification, fails, spent, solved, tick, bound, eliminate, unifyFront, unifyStep, unifyRound, unifyWithin, unify}
-use Rattle.rules.specs.Meaning.{Ind, Inds, node, inil, icons, Filling, eval, evals}
+use Rattle.rules.specs.Unification.{Substitution, done, bind, apply, applys, Unification, fails, spent, solved, tick, bound, unifyFront, unifyStep, unifyRound, unifyWithin, unify}
+use Rattle.rules.specs.Meaning.{Inds, node, inil, icons, Filling, eval, evals}
 use Rattle.rules.proofs.TermLaws.{occ-other}
 use Rattle.rules.proofs.Values.{assign, assign-at, assign-free, assign-same, sub-eval, subs-eval, occurs-check}
 

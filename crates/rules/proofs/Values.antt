@@ -1,12 +1,12 @@
 -- The values of terms and what literals say: under a substitution, a renaming, fillings that agree; and the occurs check by size.
-use Prim.Native.Nat.{ℕ, zero, suc, _+_, max, _≤_, _<_}
+use Prim.Native.Nat.{ℕ, zero, suc, _+_, _≤_, _<_}
 use mathlib.Core.Path.{_≡_, refl, sym, _∙_, ap, ap₂, fun-ext}
 use mathlib.Core.Logic.{ite, _↔_, _⊎_, inl, inr, if-pos}
 use mathlib.Core.List.{List, [], _∷_, _++_, List·Memᴰ·head, List·Memᴰ·tail}
 use native.Mathlib.Decide.{ℕ-discrete}
 use native.Mathlib.Omega.{arith}
 use Rattle.rules.specs.Terms.{Term, Terms, var, app, nil, cons, sub, subs, occ, occs, top, tops, rename, renames, varsTerm, varsTerms}
-use Rattle.rules.specs.Syntax.{Literal, pos, neg, arguments, mapLiterals, varsLiterals, topLiterals}
+use Rattle.rules.specs.Syntax.{Literal, pos, neg, mapLiterals, varsLiterals, topLiterals}
 use Rattle.rules.specs.Meaning.{Ind, Inds, node, inil, icons, Filling, eval, evals, Atoms, Holds}
 use Rattle.rules.proofs.TermLaws.{sub-free}
 use Rattle.rules.proofs.NumberingLaws.{In}

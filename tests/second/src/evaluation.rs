@@ -61,7 +61,10 @@ enum Plan {
     Succeed,
     Park(Mark),
     /// The goals are complete only if their words fit.
-    Replace { derived: Vec<Goal>, words: usize },
+    Replace {
+        derived: Vec<Goal>,
+        words: usize,
+    },
     Descend(Goal),
 }
 
@@ -153,7 +156,11 @@ impl Evaluation<'_> {
         let goal = self.first();
         let level = self.depth();
         if goal.literals.is_empty() {
-            return if level == 0 { Plan::Answer } else { Plan::Succeed };
+            return if level == 0 {
+                Plan::Answer
+            } else {
+                Plan::Succeed
+            };
         }
         let Some(at) = goal.select() else {
             return Plan::Park(Mark::Floundered);

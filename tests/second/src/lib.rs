@@ -7,12 +7,16 @@ pub mod case;
 pub mod deck;
 pub mod evaluation;
 pub mod goals;
+pub mod judge;
 pub mod listing;
 pub mod query;
+pub mod random;
 pub mod reader;
+pub mod shrink;
 pub mod terms;
 pub mod unify;
 pub mod vectors;
+pub mod world;
 
 pub use case::Case;
 pub use evaluation::{Outcome, Stop};

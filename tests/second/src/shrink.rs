@@ -203,8 +203,13 @@ fn cut_symbol(case: &Case, number: usize) -> Candidate {
     }
     let symbol = number as u16;
     let names = |cell: &u16| *cell < VARIABLE && cell % NEGATED == symbol;
-    let mut parts = world.clauses.iter().chain([&world.query]);
-    if world.symbols.len() == 1 || parts.any(|part| part.iter().any(names)) {
+    let used = world
+        .clauses
+        .iter()
+        .flatten()
+        .chain(&world.query)
+        .any(names);
+    if world.symbols.len() == 1 || used {
         return Candidate::Not;
     }
     world.symbols.remove(number);

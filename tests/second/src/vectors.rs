@@ -136,7 +136,10 @@ fn print_case(case: &Case) -> String {
         "sizes {} {} {} {}\n",
         case.budget, case.answer_words, case.store_words, case.scratch_words
     );
-    format!("case {}\n", case.name) + &line("deck", &case.deck) + &line("query", &case.query) + &sizes
+    format!("case {}\n", case.name)
+        + &line("deck", &case.deck)
+        + &line("query", &case.query)
+        + &sizes
 }
 
 fn line(key: &str, words: &[u16]) -> String {

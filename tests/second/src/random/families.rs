@@ -21,26 +21,26 @@ const X: usize = 0;
 const Y: usize = 1;
 const Z: usize = 2;
 
-/// Anything at all.
+/// Anything at all; mostly about a few favoured predicates.
 pub fn mixed(dice: &mut Dice) -> World {
-    let signature = Signature::small(dice);
-    let negation = *dice.pick(&[0, 2, 3, 5]);
+    let mut signature = Signature::small(dice);
+    for _ in 0..dice.range(1, 3) {
+        let favoured = *dice.pick(&signature.predicates);
+        signature.favoured.push(favoured);
+    }
+    let negation = *dice.pick(&[0, 1, 2, 3, 5]);
     let mut clauses = Vec::new();
-    for _ in 0..dice.range(0, 12) {
+    for _ in 0..dice.range(2, 14) {
         let pool = dice.range(1, 4);
-        let depth = dice.range(0, 2);
+        let depth = *dice.pick(&[0, 0, 1, 2]);
         let mut clause = signature.literal(dice, 0, depth, pool);
-        let most = *dice.pick(&[0, 1, 2, 2, 3]);
+        let most = *dice.pick(&[0, 0, 1, 2, 3]);
         clause.extend(signature.body(dice, most, negation, pool));
         clauses.push(clause);
     }
     let pool = dice.range(0, 3);
-    let query = signature.body(dice, 3, negation, pool);
-    let query = if pool == 0 && signature.constants.is_empty() {
-        Vec::new()
-    } else {
-        query
-    };
+    let mut query = signature.literal(dice, 0, 0, pool);
+    query.extend(signature.body(dice, 2, negation, pool));
     world(signature, clauses, query)
 }
 
@@ -54,14 +54,7 @@ pub fn graph(dice: &mut Dice) -> World {
     let [node, win, alone] = [1, 1, 1].map(|arity| signature.predicate(arity));
     let places = signature.constants.clone();
     let (x, y, z) = (variable(X), variable(Y), variable(Z));
-    let mut clauses: Vec<Vec<u16>> = Vec::new();
-    let upwards = dice.chance(1, 2);
-    for _ in 0..dice.range(1, 12) {
-        let (from, to) = (*dice.pick(&places), *dice.pick(&places));
-        let turned = upwards && from > to;
-        let (from, to) = if turned { (to, from) } else { (from, to) };
-        clauses.push(vec![edge, from, to]);
-    }
+    let mut clauses = edges(dice, edge, &places);
     clauses.extend(places.iter().map(|place| vec![node, *place]));
     let rules = [
         vec![win, x, edge, x, y, not(win), y],
@@ -74,86 +67,30 @@ pub fn graph(dice: &mut Dice) -> World {
         vec![win, x, not(alone), x],
     ];
     clauses.extend(rules.into_iter().filter(|_| dice.chance(3, 5)));
-    let query = graph_query(dice, &signature);
-    world(signature, clauses, query)
-}
-
-fn graph_query(dice: &mut Dice, signature: &Signature) -> Vec<u16> {
+    let asked = signature.predicates.iter().filter(|(number, _)| {
+        let defined = clauses.iter().any(|clause| clause[0] == *number);
+        defined && *number != node && *number != edge
+    });
+    signature.favoured = asked.copied().collect();
     let mut query = Vec::new();
     for _ in 0..dice.range(1, 2) {
         let sign = if dice.chance(1, 3) { NEGATED } else { 0 };
         query.extend(signature.literal(dice, sign, 0, 2));
     }
-    query
-}
-
-/// Lists and numbers: append, member, plus, and what is not a member.
-pub fn lists(dice: &mut Dice) -> World {
-    let mut signature = Signature::default();
-    let [end, zero, a] = [0, 0, 0].map(|arity| signature.functor(arity));
-    let (next, cons) = (signature.functor(1), signature.functor(2));
-    let (append, plus) = (signature.predicate(3), signature.predicate(3));
-    let (member, missing) = (signature.predicate(2), signature.predicate(2));
-    let (x, y, z, w) = (variable(X), variable(Y), variable(Z), variable(3));
-    let mut clauses = vec![
-        vec![append, end, x, x],
-        vec![append, cons, x, y, z, cons, x, w, append, y, z, w],
-        vec![plus, zero, x, x],
-        vec![plus, next, x, y, next, z, plus, x, y, z],
-        vec![member, x, cons, x, y],
-        vec![member, x, cons, y, z, member, x, z],
-        vec![missing, x, y, not(member), x, y],
-    ];
-    if dice.chance(1, 4) {
-        let (from, to) = (dice.below(clauses.len()), dice.below(clauses.len()));
-        clauses.swap(from, to);
-    }
-    let mut query = Vec::new();
-    for _ in 0..dice.range(1, 2) {
-        list_literal(dice, [append, plus, member, missing], &mut query, |dice, out| {
-            list_term(dice, [end, zero, a, next, cons], out)
-        });
-    }
     world(signature, clauses, query)
 }
 
-fn list_literal(
-    dice: &mut Dice,
-    [append, plus, member, missing]: [u16; 4],
-    out: &mut Vec<u16>,
-    term: impl Fn(&mut Dice, &mut Vec<u16>),
-) {
-    let (cell, arity) = *dice.pick(&[
-        (append, 3),
-        (plus, 3),
-        (member, 2),
-        (missing, 2),
-        (not(member), 2),
-        (not(missing), 2),
-        (not(append), 3),
-    ]);
-    out.push(cell);
-    for _ in 0..arity {
-        term(dice, out);
+/// Facts of a graph; in half of them no way leads back.
+fn edges(dice: &mut Dice, edge: u16, places: &[u16]) -> Vec<Vec<u16>> {
+    let upwards = dice.chance(1, 2);
+    let mut facts = Vec::new();
+    for _ in 0..dice.range(1, 12) {
+        let (from, to) = (*dice.pick(places), *dice.pick(places));
+        let turned = upwards && from > to;
+        let (from, to) = if turned { (to, from) } else { (from, to) };
+        facts.push(vec![edge, from, to]);
     }
-}
-
-fn list_term(dice: &mut Dice, [end, zero, a, next, cons]: [u16; 5], out: &mut Vec<u16>) {
-    match dice.below(4) {
-        0 => out.push(variable(dice.below(3))),
-        1 => {
-            let count = dice.below(9);
-            out.extend(vec![next; count]);
-            out.push(zero);
-        }
-        _ => {
-            for _ in 0..dice.below(7) {
-                out.push(cons);
-                out.push(*dice.pick(&[zero, a, end, variable(0), variable(1)]));
-            }
-            out.push(*dice.pick(&[end, end, variable(2)]));
-        }
-    }
+    facts
 }
 
 /// Negation before its variables are known, on several levels.
@@ -220,7 +157,7 @@ pub fn chain(dice: &mut Dice) -> World {
         _ => {}
     }
     let sign = if dice.chance(1, 3) { NEGATED } else { 0 };
-    let query = vec![sign + rows[0], *dice.pick(&rows)];
+    let query = [sign + rows[0], *dice.pick(&rows)];
     let query = query[..dice.range(1, 2)].to_vec();
     world(signature, clauses, query)
 }

@@ -11,6 +11,8 @@ pub struct Signature {
     /// Functors of arity 1 and more: number and arity.
     pub functors: Vec<(u16, usize)>,
     pub predicates: Vec<(u16, usize)>,
+    /// Predicates drawn more often, if any.
+    pub favoured: Vec<(u16, usize)>,
 }
 
 pub fn variable(number: usize) -> u16 {
@@ -80,7 +82,13 @@ impl Signature {
     }
 
     pub fn literal(&self, dice: &mut Dice, sign: u16, depth: usize, pool: usize) -> Vec<u16> {
-        let (predicate, arity) = *dice.pick(&self.predicates);
+        let favour = !self.favoured.is_empty() && dice.chance(5, 6);
+        let among = if favour {
+            &self.favoured
+        } else {
+            &self.predicates
+        };
+        let (predicate, arity) = *dice.pick(among);
         let mut out = vec![sign + predicate];
         for _ in 0..arity {
             self.term(dice, depth, pool, &mut out);

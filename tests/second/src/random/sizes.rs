@@ -5,12 +5,12 @@ use crate::case::Case;
 use crate::evaluation::Outcome;
 use crate::world::World;
 
-pub fn sized(dice: &mut Dice, world: &World) -> Case {
+pub fn sized(dice: &mut Dice, world: &World, most_steps: u32) -> Case {
     let mut case = Case {
         name: String::new(),
         deck: world.deck(),
         query: world.query.clone(),
-        budget: budget(dice),
+        budget: budget(dice).min(most_steps),
         answer_words: answer_words(dice),
         store_words: store_words(dice),
         scratch_words: scratch_words(dice),
@@ -72,7 +72,8 @@ fn tighten(dice: &mut Dice, case: &mut Case) {
     match dice.below(3) {
         0 => case.budget = one_off(dice, outcome.steps as usize) as u32,
         1 => {
-            case.answer_words = one_off(dice, some_answers(dice, &outcome));
+            let words = some_answers(dice, &outcome);
+            case.answer_words = one_off(dice, words);
             case.store_words = 65_535;
         }
         _ => {

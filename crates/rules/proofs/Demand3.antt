@@ -1,0 +1,116 @@
+-- Demand 3 about the words in the slices: of every accepted run, whatever its deck, query, budget and slices, and wherever it stops.
+-- The goals of the statement are read from the words that the run left.
+use Prim.Native.Nat.{ℕ, _+_, _≤_}
+use mathlib.Core.Path.{_≡_, refl, sym, _∙_, ap, subst}
+use mathlib.Core.Logic.{_↔_, ∥∥₁-elim}
+use mathlib.Core.HLevel.{⊥-prop}
+use mathlib.Core.List.{List, [], _∷_, _++_}
+use mathlib.Core.Option.{some}
+use native.Mathlib.Omega.{arith}
+use lib.ListN.{length, drop, length-append, take-append-drop}
+use Rattle.rules.specs.Syntax.{Symbol, Literal, Deck, Goal}
+use Rattle.rules.specs.Refusals.{badStore, badScratch, Checked, refused, accepted, andThen, require}
+use Rattle.rules.specs.Decks.{openDeck, readQuery}
+use Rattle.rules.specs.Goals.{Marked, unmarked, writeGoals, readGoals, queryVariables, firstGoal}
+use Rattle.rules.specs.Evaluation.{Outcome, evaluate}
+use Rattle.rules.specs.Run.{run, Report, report, returned, answersAfter, storeStart, Slices, Filled, Leaves, runOn, Ran}
+use Rattle.rules.specs.Meaning.{Inds, Interpretation, Satisfies, individuals, QueryHolds, SomeCovers}
+use Rattle.rules.specs.Demand.{Read, Demand3}
+use Rattle.rules.specs.WellFormed.{All, WfGoal, WfMarked}
+use Rattle.rules.proofs.ListLaws.{all-append, length-unmarked}
+use Rattle.rules.proofs.GoalLaws.{read-goals}
+use Rattle.rules.proofs.DeckLaws.{opened-written, query-reads}
+use Rattle.rules.proofs.FirstGoal.{firstGoal-wf}
+use Rattle.rules.proofs.Keeps.{OutcomeHas}
+use Rattle.rules.proofs.GoalsKept.{WellFormed, evaluate-keeps}
+use Rattle.rules.proofs.Cover.{remaining, query-covers}
+
+-- An accepted run is the evaluation of the query that was read, over the deck that was opened.
+pub record Accepted (deckWords queryWords : List ℕ) (budget answerRoom storeSize : ℕ) (o : Outcome) : Type 0 where
+  pub deck : Deck
+  pub query : List Literal
+  pub opens : openDeck deckWords ≡ accepted deck
+  pub asks : readQuery deck queryWords ≡ accepted query
+  pub evaluates : o ≡ evaluate deck answerRoom storeSize (firstGoal query ∷ []) [] budget
+
+passed : {A B : Type 0} {b : B} (c : Checked A) (next : A → Checked B) → andThen c next ≡ accepted b → (a : A) × (c ≡ accepted a) × (next a ≡ accepted b)
+unfolding andThen
+passed (refused n) next e = absurd (let z : _≡_ {A = ℕ} 0 1 = cc in omega arith)
+passed (accepted a) next e = (a, refl, e)
+
+pub run-accepted :
+    (deckWords queryWords : List ℕ) (budget answerRoom storeSize scratchSize : ℕ) (o : Outcome) → run deckWords queryWords budget answerRoom storeSize scratchSize ≡ accepted o
+    → Accepted deckWords queryWords budget answerRoom storeSize o
+unfolding run
+run-accepted deckWords queryWords budget answerRoom storeSize scratchSize o e =
+    let d = passed (openDeck deckWords) _ e in
+    let q = passed (readQuery (d .0) queryWords) _ (d .2) in
+    let s = passed (require badStore _) _ (q .2) in
+    let t = passed (require badScratch _) _ (s .2) in
+    record { deck = d .0; query = q .0; opens = d .1; asks = q .1; evaluates = cc }
+
+-- Goals that are well formed are read from words that begin with their writing.
+unmarked-wf : (S : List Symbol) (gs : List Goal) → All (WfGoal S) gs → All (WfMarked S) (unmarked gs)
+unmarked-wf S [] w = tt
+unmarked-wf S (g ∷ gs) w = (w .0, unmarked-wf S gs (w .1))
+
+left-read :
+    (deck : Deck) (o : Outcome) (entry exit : Slices) → OutcomeHas (WellFormed (deck .symbols)) o → Filled o entry exit
+    → Read deck (report o) exit (unmarked (o .answers)) (unmarked (o .pending) ++ o .parked)
+unfolding report answersAfter storeStart
+left-read deck o entry exit w f = record {
+  answers = subst (λ n. readGoals (deck .symbols) n (exit .answers) ≡ some (unmarked (o .answers))) (length-unmarked (o .answers))
+      (rw (f .answers) (read-goals (deck .symbols) (unmarked (o .answers)) _ (unmarked-wf (deck .symbols) (o .answers) (w .answers))));
+  store =
+      let open′ : List Marked = unmarked (o .pending) ++ o .parked in
+      let many : length open′ ≡ length (o .pending) + length (o .parked) = length-append (unmarked (o .pending)) (o .parked) ∙ ap (λ n. n + length (o .parked)) (length-unmarked (o .pending)) in
+      let begins : writeGoals open′ ++ drop (length (writeGoals open′)) (exit .store) ≡ exit .store =
+      ap (λ ws. ws ++ drop (length (writeGoals open′)) (exit .store)) (sym (f .store)) ∙ take-append-drop (length (writeGoals open′)) (exit .store) in
+      subst (λ n. readGoals (deck .symbols) n (exit .store) ≡ some open′) many
+      (subst (λ ws. readGoals (deck .symbols) (length open′) ws ≡ some open′) begins
+      (read-goals (deck .symbols) open′ _ (all-append (WfMarked (deck .symbols)) (unmarked (o .pending)) (o .parked) (unmarked-wf (deck .symbols) (o .pending) (w .pending)) (w .parked))));
+}
+
+-- DEMAND 3
+pub demand-3 :
+    (deckWords queryWords : List ℕ) (budget : ℕ) (entry exit : Slices) (r : Report) → Ran deckWords queryWords budget entry (accepted r) exit
+    → Demand3 deckWords queryWords r exit
+unfolding Leaves returned runOn
+demand-3 deckWords queryWords budget entry exit r ran = go (runOn deckWords queryWords budget entry) refl (ran .returns) (ran .leaves)
+  where
+    go : (c : Checked Outcome) → runOn deckWords queryWords budget entry ≡ c → accepted r ≡ returned c → Leaves c entry exit → Demand3 deckWords queryWords r exit
+    go (refused n) e back left = absurd (let z : _≡_ {A = ℕ} 0 1 = cc in omega arith)
+    go (accepted o) e back left =
+        let a = run-accepted deckWords queryWords budget (length (entry .answers)) (length (entry .store)) (length (entry .scratch)) o e in
+        let same : r ≡ report o = cc in
+        let deck : Deck = a .deck in
+        let query : List Literal = a .query in
+        let wf = opened-written deckWords deck (a .opens) .1 in
+        let q = query-reads deck queryWords query (a .asks) in
+        let first = firstGoal-wf (deck .symbols) query (q .1) (subst (λ ws. length ws ≤ 500) (q .0) (q .2)) in
+        let kept = evaluate-keeps deck wf (length (entry .answers)) (length (entry .store)) (firstGoal query ∷ []) [] budget (first, tt) tt in
+        record {
+          deck = deck;
+          query = query;
+          listed = unmarked (o .answers);
+          leftOpen = unmarked (o .pending) ++ o .parked;
+          opens = a .opens;
+          asks = a .asks;
+          reads = subst (λ (x : Report). Read deck x exit (unmarked (o .answers)) (unmarked (o .pending) ++ o .parked)) (sym same)
+              (left-read deck o entry exit (subst (OutcomeHas (WellFormed (deck .symbols))) (sym (a .evaluates)) kept) left);
+          covered = λ I sat choice many. subst (λ (x : Outcome). QueryHolds I query choice ↔ SomeCovers I choice (remaining x)) (sym (a .evaluates))
+              (query-covers query (q .1 .inOrder) choice many deck (length (entry .answers)) (length (entry .store)) budget I sat);
+        }
+
+-- Where nothing is listed and nothing is left open, the query holds for no choice.
+pub nothing-left :
+    {deckWords queryWords : List ℕ} {r : Report} {exit : Slices} (d : Demand3 deckWords queryWords r exit) → r .answers ≡ 0 → r .pending + r .parked ≡ 0
+    → (I : Interpretation) → Satisfies I (d .deck) → (choice : Inds) → individuals choice ≡ length (queryVariables (d .query)) → ¬ QueryHolds I (d .query) choice
+unfolding readGoals SomeCovers
+nothing-left {r = r} {exit} d a b I sat choice many h =
+    let l : readGoals (d .deck .symbols) 0 (exit .answers) ≡ some (d .listed) = rw a at (d .reads .answers) in
+    let k : readGoals (d .deck .symbols) 0 (exit .store) ≡ some (d .leftOpen) = rw b at (d .reads .store) in
+    let e : d .listed ≡ [] = cc in
+    let f : d .leftOpen ≡ [] = cc in
+    let none : SomeCovers I choice [] = rw (e, f) at (d .covered I sat choice many .0 h) in
+    ∥∥₁-elim none ⊥-prop (λ x. x)

@@ -1,0 +1,135 @@
+//! The runs that document 01 states.
+
+use second::vectors::{result, Expected};
+use second::world::World;
+use second::{program, Case};
+
+const L: [u16; 29] = [
+    1, 5, 8, 4, 13, 12, 17, 29, 0, 0, 257, 257, 257, 0, 2, 4, 6, 2, 0, 2, 1, 3, 0, 4, 32768, 2,
+    32768, 16387, 32768,
+];
+const X: u16 = 32_768;
+const Y: u16 = 32_769;
+
+fn case(deck: &[u16], query: &[u16], budget: u32) -> Case {
+    Case {
+        name: String::new(),
+        deck: deck.to_vec(),
+        query: query.to_vec(),
+        budget,
+        answer_words: 8_192,
+        store_words: 16_384,
+        scratch_words: 8_192,
+    }
+}
+
+/// Stop, steps, answers, pending, parked; and the marks of the parked goals.
+fn line(deck: &[u16], query: &[u16], budget: u32) -> (String, Vec<u16>) {
+    let case = case(deck, query, budget);
+    let Expected::Ran(ran) = result(&case) else {
+        panic!("refused");
+    };
+    let [answers, pending, parked] = ran.counts;
+    let text = format!("{} {} {answers} {pending} {parked}", ran.stop, ran.steps);
+    let outcome = case.run().expect("accepted");
+    let marks = outcome.parked.iter().map(|goal| goal[0] / 4_096);
+    (text, marks.collect())
+}
+
+fn expect(deck: &[u16], query: &[u16], budget: u32, text: &str, marks: &[u16]) {
+    let expected = (text.to_string(), marks.to_vec());
+    assert_eq!(line(deck, query, budget), expected, "{query:?} {budget}");
+}
+
+fn deck(symbols: &[u16], clauses: &[&[u16]]) -> Vec<u16> {
+    let world = World {
+        symbols: symbols.to_vec(),
+        clauses: clauses.iter().map(|clause| clause.to_vec()).collect(),
+        query: Vec::new(),
+    };
+    world.deck()
+}
+
+#[test]
+fn leads_by_budget() {
+    expect(&L, &[4, X], 100_000, "finished 8 1 0 0", &[]);
+    expect(&L, &[4, X], 8, "finished 8 1 0 0", &[]);
+    expect(&L, &[4, X], 7, "budget 7 0 1 0", &[]);
+    expect(&L, &[4, X], 4, "budget 4 0 2 0", &[]);
+    expect(&L, &[4, X], 0, "budget 0 0 1 0", &[]);
+}
+
+#[test]
+fn other_queries_of_deck_l() {
+    expect(&L, &[16_387, X], 100_000, "finished 1 0 0 1", &[1]);
+    expect(&L, &[], 100_000, "finished 1 1 0 0", &[]);
+    expect(&L, &[3, 1], 100_000, "finished 1 0 0 0", &[]);
+    expect(&L, &[3, 0], 100_000, "finished 2 1 0 0", &[]);
+}
+
+#[test]
+fn p_if_not_p() {
+    let deck = deck(&[256], &[&[0, 16_384]]);
+    expect(&deck, &[0], 100_000, "finished 66 0 0 1", &[2]);
+}
+
+#[test]
+fn containment() {
+    let deck = deck(&[258, 1], &[&[0, X, 1, X]]);
+    expect(&deck, &[0, X, X], 100_000, "finished 1 0 0 0", &[]);
+}
+
+#[test]
+fn growing_argument() {
+    let deck = deck(&[257, 1, 0], &[&[0, X, 0, 1, X]]);
+    expect(&deck, &[0, 2], 100_000, "finished 1021 0 0 1", &[3]);
+}
+
+#[test]
+fn clarks_example() {
+    let clauses: [&[u16]; 3] = [&[0, X, 1, Y, 2, Y], &[1, 3, X, 1, X], &[2, 4, X]];
+    let deck = deck(&[257, 257, 257, 1, 1, 0], &clauses);
+    expect(&deck, &[0, 5], 100_000, "finished 1020 0 0 1", &[3]);
+}
+
+fn bytes(words: &[u16]) -> Vec<u8> {
+    words.iter().flat_map(|word| word.to_le_bytes()).collect()
+}
+
+fn listed(deck: &[u16], query: &[u16]) -> String {
+    let printed = program(Some(&bytes(deck)), &bytes(query));
+    String::from_utf8(printed).expect("plain text")
+}
+
+#[test]
+fn worked_listing() {
+    assert_eq!(listed(&L, &[4, X]), "all\nfinished 8 1 0 0\ns1\n");
+}
+
+#[test]
+fn other_listings() {
+    assert_eq!(listed(&L, &[]), "all\nfinished 1 1 0 0\ntrue\n");
+    assert_eq!(listed(&L, &[3, 1]), "no\nfinished 1 0 0 0\n");
+    assert_eq!(listed(&L, &[16_387, X]), "open\nfinished 1 0 0 1\n");
+    let deck = deck(&[2, 0, 259], &[&[2, X, 0, 1, 0, Y, X, Y]]);
+    let text = "all\nfinished 2 1 0 0\nv0 s0(s1,s0(v1,v0)) v1\n";
+    assert_eq!(listed(&deck, &[2, X, Y, 32_770]), text);
+}
+
+#[test]
+fn program_refusals() {
+    let query = bytes(&[4, X]);
+    let odd = [&bytes(&L)[..], &[0]].concat();
+    let long = vec![0; 32_769];
+    let refused = |number: u32| format!("refused {number}\n").into_bytes();
+    assert_eq!(program(None, &query), refused(1));
+    assert_eq!(program(Some(&odd), &query), refused(1));
+    assert_eq!(program(Some(&long), &query), refused(1));
+    assert_eq!(program(Some(&[]), &query), refused(1));
+    let deck = bytes(&L);
+    assert_eq!(program(Some(&deck), &vec![0; 1_001]), refused(6));
+    assert_eq!(program(Some(&deck), &vec![0; 1_002]), refused(6));
+    assert_eq!(program(Some(&deck), &vec![0; 999]), refused(7));
+    assert_eq!(program(Some(&deck), &vec![0; 1_000]), refused(7));
+    assert_eq!(program(None, &vec![0; 1_001]), refused(1));
+}
