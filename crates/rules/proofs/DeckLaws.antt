@@ -427,14 +427,14 @@ opened-written ws d e =
     )
 
 -- Queries.
-pub read-query : (d : Deck) (q : List Literal) → WfQuery (d .symbols) q → length (writeLiterals q) ≤ 500 → readQuery d (writeLiterals q) ≡ accepted q
+pub read-query : (d : Deck) (q : List Literal) → WfQuery (d .symbols) q → readQuery d (writeLiterals q) ≡ accepted q
 unfolding readQuery andThen require obtain
-read-query d q w h = rw (le-leb (length (writeLiterals q)) 500 h, read-inOrder (d .symbols) q (w .literals) (w .inOrder) (omega arith))
+read-query d q w = rw (le-leb (length (writeLiterals q)) 500 (w .short), read-inOrder (d .symbols) q (w .literals) (w .inOrder) (omega (arith, w .short)))
 
-pub query-reads : (d : Deck) (ws : List ℕ) (q : List Literal) → readQuery d ws ≡ accepted q → (ws ≡ writeLiterals q) × WfQuery (d .symbols) q × (length ws ≤ 500)
+pub query-reads : (d : Deck) (ws : List ℕ) (q : List Literal) → readQuery d ws ≡ accepted q → (ws ≡ writeLiterals q) × WfQuery (d .symbols) q
 unfolding readQuery
 query-reads d ws q e =
     let short = required longQuery (leb (length ws) 500) _ e in
     let o = obtained-last badQuery (readLiterals (d .symbols) ws) q (short .1) in
     let r = inOrder-reads (d .symbols) ws q o in
-    (r .0 .written, record { literals = r .0 .literals; inOrder = r .1 }, leb-true (length ws) 500 (short .0))
+    (r .0 .written, record { literals = r .0 .literals; inOrder = r .1; short = subst (λ (cs : List ℕ). length cs ≤ 500) (r .0 .written) (leb-true (length ws) 500 (short .0)) })

@@ -4,7 +4,7 @@ use Prim.Native.Nat.{ℕ, _+_, _≤_}
 use mathlib.Core.Path.{_≡_, refl, sym, _∙_, ap, subst}
 use mathlib.Core.Logic.{_↔_, ∥∥₁-elim}
 use mathlib.Core.HLevel.{⊥-prop}
-use mathlib.Core.List.{List, [], _∷_, _++_}
+use mathlib.Core.List.{List, [], _∷_, _++_, append-nil}
 use mathlib.Core.Option.{some}
 use native.Mathlib.Omega.{arith}
 use lib.ListN.{length, drop, length-append, take-append-drop}
@@ -23,6 +23,7 @@ use Rattle.rules.proofs.DeckLaws.{opened-written, query-reads}
 use Rattle.rules.proofs.FirstGoal.{firstGoal-wf}
 use Rattle.rules.proofs.Keeps.{OutcomeHas}
 use Rattle.rules.proofs.GoalsKept.{WellFormed, evaluate-keeps}
+use Rattle.rules.proofs.EndLaws.{Bare, answers-bare}
 use Rattle.rules.proofs.Cover.{remaining, query-covers}
 
 -- An accepted run is the evaluation of the query that was read, over the deck that was opened.
@@ -49,18 +50,21 @@ run-accepted deckWords queryWords budget answerRoom storeSize scratchSize o e =
     let t = passed (require badScratch _) _ (s .2) in
     record { deck = d .0; query = q .0; opens = d .1; asks = q .1; evaluates = cc }
 
+-- What holds of goals holds of them with mark 0.
+unmarked-all : (P : Goal → Type 0) (gs : List Goal) → All P gs → All (λ m. P (m .goal)) (unmarked gs)
+unmarked-all P [] w = tt
+unmarked-all P (g ∷ gs) w = (w .0, unmarked-all P gs (w .1))
+
 -- Goals that are well formed are read from words that begin with their writing.
-unmarked-wf : (S : List Symbol) (gs : List Goal) → All (WfGoal S) gs → All (WfMarked S) (unmarked gs)
-unmarked-wf S [] w = tt
-unmarked-wf S (g ∷ gs) w = (w .0, unmarked-wf S gs (w .1))
 
 left-read :
-    (deck : Deck) (o : Outcome) (entry exit : Slices) → OutcomeHas (WellFormed (deck .symbols)) o → Filled o entry exit
+    (deck : Deck) (o : Outcome) (entry exit : Slices) → OutcomeHas (WellFormed (deck .symbols)) o → All Bare (o .answers) → Filled o entry exit
     → Read deck (report o) exit (unmarked (o .answers)) (unmarked (o .pending) ++ o .parked)
 unfolding report answersAfter storeStart
-left-read deck o entry exit w f = record {
+left-read deck o entry exit w bare f = record {
+  plain = unmarked-all Bare (o .answers) bare;
   answers = subst (λ n. readGoals (deck .symbols) n (exit .answers) ≡ some (unmarked (o .answers))) (length-unmarked (o .answers))
-      (rw (f .answers) (read-goals (deck .symbols) (unmarked (o .answers)) _ (unmarked-wf (deck .symbols) (o .answers) (w .answers))));
+      (rw (f .answers) (read-goals (deck .symbols) (unmarked (o .answers)) _ (unmarked-all (WfGoal (deck .symbols)) (o .answers) (w .answers))));
   store =
       let open′ : List Marked = unmarked (o .pending) ++ o .parked in
       let many : length open′ ≡ length (o .pending) + length (o .parked) = length-append (unmarked (o .pending)) (o .parked) ∙ ap (λ n. n + length (o .parked)) (length-unmarked (o .pending)) in
@@ -68,7 +72,7 @@ left-read deck o entry exit w f = record {
       ap (λ ws. ws ++ drop (length (writeGoals open′)) (exit .store)) (sym (f .store)) ∙ take-append-drop (length (writeGoals open′)) (exit .store) in
       subst (λ n. readGoals (deck .symbols) n (exit .store) ≡ some open′) many
       (subst (λ ws. readGoals (deck .symbols) (length open′) ws ≡ some open′) begins
-      (read-goals (deck .symbols) open′ _ (all-append (WfMarked (deck .symbols)) (unmarked (o .pending)) (o .parked) (unmarked-wf (deck .symbols) (o .pending) (w .pending)) (w .parked))));
+      (read-goals (deck .symbols) open′ _ (all-append (WfMarked (deck .symbols)) (unmarked (o .pending)) (o .parked) (unmarked-all (WfGoal (deck .symbols)) (o .pending) (w .pending)) (w .parked))));
 }
 
 -- DEMAND 3
@@ -87,7 +91,7 @@ demand-3 deckWords queryWords budget entry exit r ran = go (runOn deckWords quer
         let query : List Literal = a .query in
         let wf = opened-written deckWords deck (a .opens) .1 in
         let q = query-reads deck queryWords query (a .asks) in
-        let first = firstGoal-wf (deck .symbols) query (q .1) (subst (λ ws. length ws ≤ 500) (q .0) (q .2)) in
+        let first = firstGoal-wf (deck .symbols) query (q .1) in
         let kept = evaluate-keeps deck wf (length (entry .answers)) (length (entry .store)) (firstGoal query ∷ []) [] budget (first, tt) tt in
         record {
           deck = deck;
@@ -97,20 +101,31 @@ demand-3 deckWords queryWords budget entry exit r ran = go (runOn deckWords quer
           opens = a .opens;
           asks = a .asks;
           reads = subst (λ (x : Report). Read deck x exit (unmarked (o .answers)) (unmarked (o .pending) ++ o .parked)) (sym same)
-              (left-read deck o entry exit (subst (OutcomeHas (WellFormed (deck .symbols))) (sym (a .evaluates)) kept) left);
+              (left-read deck o entry exit (subst (OutcomeHas (WellFormed (deck .symbols))) (sym (a .evaluates)) kept)
+              (subst (λ (x : Outcome). All Bare (x .answers)) (sym (a .evaluates)) (answers-bare deck (length (entry .answers)) (length (entry .store)) (firstGoal query ∷ []) [] budget)) left);
           covered = λ I sat choice many. subst (λ (x : Outcome). QueryHolds I query choice ↔ SomeCovers I choice (remaining x)) (sym (a .evaluates))
               (query-covers query (q .1 .inOrder) choice many deck (length (entry .answers)) (length (entry .store)) budget I sat);
         }
 
--- Where nothing is listed and nothing is left open, the query holds for no choice.
+-- THE COROLLARIES in the user's words. Where nothing is left open, the query holds exactly for the choices that a listed answer covers;
+pub all-listed :
+    {deckWords queryWords : List ℕ} {r : Report} {exit : Slices} (d : Demand3 deckWords queryWords r exit) → r .pending + r .parked ≡ 0
+    → (I : Interpretation) → Satisfies I (d .deck) → (choice : Inds) → individuals choice ≡ length (queryVariables (d .query))
+    → QueryHolds I (d .query) choice ↔ SomeCovers I choice (d .listed)
+unfolding readGoals
+all-listed {r = r} {exit} d b I sat choice many =
+    let k : readGoals (d .deck .symbols) 0 (exit .store) ≡ some (d .leftOpen) = rw b at (d .reads .store) in
+    let f : d .leftOpen ≡ [] = cc in
+    let e : d .listed ++ d .leftOpen ≡ d .listed = ap (d .listed ++_) f ∙ append-nil (d .listed) in
+    rw e at (d .covered I sat choice many)
+
+-- and where nothing is listed either, it holds for no choice.
 pub nothing-left :
     {deckWords queryWords : List ℕ} {r : Report} {exit : Slices} (d : Demand3 deckWords queryWords r exit) → r .answers ≡ 0 → r .pending + r .parked ≡ 0
     → (I : Interpretation) → Satisfies I (d .deck) → (choice : Inds) → individuals choice ≡ length (queryVariables (d .query)) → ¬ QueryHolds I (d .query) choice
 unfolding readGoals SomeCovers
 nothing-left {r = r} {exit} d a b I sat choice many h =
     let l : readGoals (d .deck .symbols) 0 (exit .answers) ≡ some (d .listed) = rw a at (d .reads .answers) in
-    let k : readGoals (d .deck .symbols) 0 (exit .store) ≡ some (d .leftOpen) = rw b at (d .reads .store) in
     let e : d .listed ≡ [] = cc in
-    let f : d .leftOpen ≡ [] = cc in
-    let none : SomeCovers I choice [] = rw (e, f) at (d .covered I sat choice many .0 h) in
+    let none : SomeCovers I choice [] = rw e at (all-listed d b I sat choice many .0 h) in
     ∥∥₁-elim none ⊥-prop (λ x. x)

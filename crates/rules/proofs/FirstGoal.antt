@@ -60,9 +60,9 @@ unfolding variables
 variables-size [] = refl
 variables-size (v ∷ vs) = omega (arith, variables-size vs)
 
-pub firstGoal-wf : (S : List Symbol) (q : List Literal) → WfQuery S q → length (writeLiterals q) ≤ 500 → WfGoal S (firstGoal q)
+pub firstGoal-wf : (S : List Symbol) (q : List Literal) → WfQuery S q → WfGoal S (firstGoal q)
 unfolding firstGoal queryVariables
-firstGoal-wf S q w h =
+firstGoal-wf S q w =
     let vs = varsLiterals q in
     record {
       answers = variables-wf S (appearing [] vs);
@@ -72,5 +72,5 @@ firstGoal-wf S q w h =
           ∙ numbers-first (above vs) vs
           ∙ numbered-later 0 (above vs) vs (omega arith) (w .inOrder);
       short =
-          omega (arith, appearing-length [] vs, goal-words (firstGoal q), variables-size (appearing [] vs), literals-length q, literals-vars q);
+          omega (arith, w .short, appearing-length [] vs, goal-words (firstGoal q), variables-size (appearing [] vs), literals-length q, literals-vars q);
     }

@@ -1,18 +1,30 @@
+-- Tables of runs.
 pub mod Cases
 pub mod Table
 pub mod MoreRuns
+-- Lists and terms.
 pub mod ListLaws
 pub mod TermLaws
-pub mod UnifyLaws
+pub mod NumberingLaws
+-- Reading and writing.
 pub mod CellLaws
+pub mod ForwardLaws
 pub mod GoalLaws
 pub mod DeckLaws
-pub mod ForwardLaws
-pub mod NumberingLaws
+pub mod DeckWords
+pub mod FirstGoal
+-- Unification, selection, and the evaluation's equations.
+pub mod UnifyLaws
+pub mod SelectLaws
+pub mod NextLaws
 pub mod LevelLaws
+pub mod EndLaws
+-- What every goal of a run is.
 pub mod Keeps
 pub mod FormedLaws
 pub mod GoalsKept
+-- Demand 3.
+pub mod Existence
 pub mod Values
 pub mod UnifySound
 pub mod Renaming
@@ -21,12 +33,3 @@ pub mod LevelSound
 pub mod Cover
 pub mod Continued
 pub mod Demand3
-pub mod DeckWords
-pub mod EndLaws
-pub mod Existence
-pub mod FirstGoal
-pub mod NextLaws
-pub mod RowChecks
-pub mod RowWalk
-pub mod SelectLaws
-pub mod SkipLaws

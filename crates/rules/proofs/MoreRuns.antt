@@ -94,6 +94,11 @@ pub cut-goal : wordsOfRun storeStart (outcomeOf (case deckN (0 ∷ []) 5 (shows 
 unfolding rules
 cut-goal = refl
 
+-- Where a child is oversized, the goal itself is parked, and not the child.
+pub oversized-goal : wordsOfRun storeStart (outcomeOf (case deckO (2 ∷ nested 100) 9 (shows finished 1 0 0 (oversized ∷ [])))) ≡ 12392 ∷ 0 ∷ 2 ∷ nested 100
+unfolding rules
+oversized-goal = refl
+
 -- The answer f(x) of r(y), with its variable.
 pub fresh-answer : wordsOfRun (λ o. answersAfter o []) (outcomeOf (case deckR (1 ∷ 32768 ∷ []) 9 (shows finished 2 1 0 []))) ≡ 4 ∷ 2 ∷ 0 ∷ 32768 ∷ []
 unfolding rules

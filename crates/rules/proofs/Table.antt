@@ -1,5 +1,5 @@
 -- The runs of document 01 that have a star, shown about the written rules by computing them.
-use Prim.Native.Nat.{ℕ, suc}
+use Prim.Native.Nat.{ℕ}
 use mathlib.Core.Path.{_≡_, refl}
 use mathlib.Core.List.{List, [], _∷_, map}
 use mathlib.Core.Option.{some}

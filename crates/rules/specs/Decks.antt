@@ -1,11 +1,10 @@
 -- Decks as words: writing one, opening one with refusals 1 to 5, and reading a query with 6 and 7 (document 01, "The deck").
-use Prim.Native.Nat.{ℕ, zero, suc, _+_, _-_}
+use Prim.Native.Nat.{ℕ, _+_, _-_}
 use mathlib.Core.Bool.{Bool, true, false, _&&_}
 use mathlib.Core.Option.{Option, none, some}
 use mathlib.Core.List.{List, [], _∷_, _++_, map}
 use lib.ListN.{length, getD, take, drop}
 use lib.Dec.{leb, ltb, eqb}
-use Rattle.rules.specs.Terms.{Terms}
 use Rattle.rules.specs.Syntax.{Symbol, functor, predicate, Literal, pos, neg, Clause, Deck}
 use Rattle.rules.specs.Cells.{writeTerms, writeLiterals, readLiterals}
 use Rattle.rules.specs.Refusals.{badHeader, badSymbol, badStarts, longClause, badClause, longQuery, badQuery, Checked, accepted, andThen as _>>=_, require, obtain}

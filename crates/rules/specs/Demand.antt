@@ -2,21 +2,22 @@
 use Prim.Native.Nat.{ℕ, _+_}
 use mathlib.Core.Path.{_≡_}
 use mathlib.Core.Logic.{_↔_}
-use mathlib.Core.List.{List, _++_}
-use mathlib.Core.Option.{Option, some}
+use mathlib.Core.List.{List, [], _++_}
+use mathlib.Core.Option.{some}
 use lib.ListN.{length}
 use Rattle.rules.specs.Syntax.{Literal, Deck}
 use Rattle.rules.specs.Refusals.{accepted}
 use Rattle.rules.specs.Decks.{openDeck, readQuery}
 use Rattle.rules.specs.Goals.{Marked, queryVariables, readGoals}
-use Rattle.rules.specs.Evaluation.{finished}
 use Rattle.rules.specs.Run.{Report, Slices}
+use Rattle.rules.specs.WellFormed.{All}
 use Rattle.rules.specs.Meaning.{Inds, Interpretation, Satisfies, individuals, QueryHolds, SomeCovers}
 
--- The listed answers are the goals at the start of the answer list, as many as the returned number of answers.
+-- The listed answers are the goals at the start of the answer list, as many as the returned number of answers; an answer has no literals.
 -- The goals left open are those at the start of the store, as many as the returned numbers of pending and parked goals together.
 pub record Read (deck : Deck) (r : Report) (exit : Slices) (listed leftOpen : List Marked) : Type 0 where
   pub answers : readGoals (deck .symbols) (r .answers) (exit .answers) ≡ some listed
+  pub plain : All (λ m. m .goal .literals ≡ []) listed
   pub store : readGoals (deck .symbols) (r .pending + r .parked) (exit .store) ≡ some leftOpen
 
 -- In each interpretation that satisfies the completed deck, for each choice, the query holds exactly when a listed answer or a goal

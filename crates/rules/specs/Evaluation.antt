@@ -1,18 +1,18 @@
 -- The evaluation (document 01, the section of that name).
 use Prim.Native.Nat.{ℕ, zero, suc, _+_, _-_}
-use mathlib.Core.Bool.{Bool, true, false}
+use mathlib.Core.Bool.{true, false}
 use mathlib.Core.List.{List, [], _∷_, _++_}
 use lib.Dec.{leb}
 use Rattle.rules.specs.Terms.{Terms, nil}
-use Rattle.rules.specs.Syntax.{Literal, pos, neg, Clause, Deck, Goal}
+use Rattle.rules.specs.Syntax.{Literal, pos, Clause, Deck, Goal}
 use Rattle.rules.specs.Goals.{Mark, floundered, undecided, oversized, deep, Marked, marked, goalWords, wordsOf, markedWords}
 use Rattle.rules.specs.Resolution.{Selection, nothing, positive, negative, select, resolvents, anyOversized}
 
--- Why an accepted run stops, and the number of each stop.
+-- Why an accepted run stops. Document 01 has words for the stops; the numbers are for calls that return numbers.
 pub data Stop : Type 0 where
   finished budget answers store : Stop
 
-unfoldable pub stopNumber : Stop → ℕ
+abbrev pub stopNumber : Stop → ℕ
 stopNumber finished = 0
 stopNumber budget = 1
 stopNumber answers = 2
@@ -79,7 +79,8 @@ actOf clauses below g = literalsAct clauses below g (g .literals)
 
 -- A new level's question: its goal, with no answer terms and the atom made positive; the words held without it; and the outer level
 -- when the new one succeeds (the outer goal is dropped), when it finishes with nothing parked (the outer goal loses the literal and
--- stays first), and when it finishes with something parked (the outer goal is parked with mark 2).
+-- stays first), and when it finishes with something parked (the outer goal is parked with mark 2). The literal has no variables, so what
+-- is left is numbered by first appearance as it was.
 pub record Question : Type 0 where
   pub goal : Goal
   pub heldOutside : ℕ
@@ -168,7 +169,8 @@ proceed again decides l left (step l′) = again l′ (left - 1)
 proceed again decides l left success = ended succeeded l (left - 1)
 proceed again decides l left (ask q) = close again l q (decides q (left - 1))
 
--- A new level starts on its goal, in the part of the store past the words held. On level 32 nothing is asked.
+-- A new level starts on its goal, in the part of the store past the words held. On level 32 nothing is asked,
+-- and what `unasked` says does not matter.
 unfoldable pub decideBy : (Place → Level → ℕ → Ended) → Question → ℕ → Reply
 decideBy evaluates q left = replyOf (evaluates (deeper (q .heldOutside)) (startLevel (q .goal)) left)
 

@@ -5,7 +5,7 @@ use mathlib.Core.Option.{Option, none, some}
 use mathlib.Core.List.{List, [], _∷_, _++_}
 use lib.ListN.{length, take, drop}
 use lib.Dec.{leb, eqb}
-use Rattle.rules.specs.Terms.{Term, var, Terms, nil, cons, sizes, renames}
+use Rattle.rules.specs.Terms.{var, Terms, nil, cons, sizes, renames}
 use Rattle.rules.specs.Syntax.{Symbol, Literal, Goal, mapGoal, varsLiterals, varsGoal}
 use Rattle.rules.specs.Cells.{writeTerms, writeLiterals, Row, row, readRow}
 
@@ -74,7 +74,7 @@ position (x ∷ xs) v = elim (eqb v x) [ true ↦ 0 | false ↦ suc (position xs
 unfoldable pub renumber : Goal → Goal
 renumber g = mapGoal (renames (position (appearing [] (varsGoal g)))) g
 
--- The first goal has the query's variables in order as its answer terms, then the query.
+-- The first goal has the query's variables in order as its answer terms, then the query. It is numbered by first appearance as it stands.
 unfoldable pub variables : List ℕ → Terms
 variables [] = nil
 variables (v ∷ vs) = cons (var v) (variables vs)
@@ -85,7 +85,7 @@ queryVariables query = appearing [] (varsLiterals query)
 unfoldable pub firstGoal : List Literal → Goal
 firstGoal query = record { answers = variables (queryVariables query); literals = query }
 
--- Reading goals is the inverse of writing them.
+-- Reading goals is the inverse of writing them. It asks neither for the numbering nor for at most 1,024 words.
 unfoldable pub readMark : ℕ → Option Mark
 readMark zero = some pending
 readMark (suc zero) = some floundered

@@ -5,6 +5,7 @@ pub mod Cells
 pub mod Refusals
 pub mod Decks
 pub mod Goals
+pub mod WellFormed
 pub mod Unification
 pub mod Resolution
 pub mod Evaluation
@@ -13,5 +14,4 @@ pub mod Meaning
 pub mod Demand
 pub mod Listing
 pub mod Program
-pub mod WellFormed
 pub mod All

@@ -1,6 +1,6 @@
 -- The printed listing (document 01, the section of that name), as bytes. Most functions take `rest`, the bytes that follow.
 use Prim.Native.Nat.{ℕ, zero, suc, _+_, _/_, _%_}
-use mathlib.Core.Bool.{Bool, true, false}
+use mathlib.Core.Bool.{true, false}
 use mathlib.Core.List.{List, [], _∷_, _++_}
 use lib.ListN.{length}
 use lib.Dec.{ltb}
@@ -38,7 +38,7 @@ unfoldable pub digits : ℕ → ℕ → List ℕ → List ℕ
 digits zero n rest = rest
 digits (suc more) n rest = elim (ltb n 10) [ true ↦ (48 + n) ∷ rest | false ↦ digits more (n / 10) ((48 + n % 10) ∷ rest) ]
 
--- A number has fewer digits than its successor has units.
+-- A number n has at most n + 1 digits.
 unfoldable pub decimal : ℕ → List ℕ → List ℕ
 decimal n rest = digits (suc n) n rest
 

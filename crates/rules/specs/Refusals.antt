@@ -8,7 +8,7 @@ use mathlib.Core.Option.{Option, none, some}
 pub data Refusal : Type 0 where
   badHeader badSymbol badStarts longClause badClause longQuery badQuery badStore badScratch : Refusal
 
-unfoldable pub refusalNumber : Refusal → ℕ
+abbrev pub refusalNumber : Refusal → ℕ
 refusalNumber badHeader = 1
 refusalNumber badSymbol = 2
 refusalNumber badStarts = 3
@@ -38,7 +38,7 @@ unfoldable pub obtain : {A : Type 0} → Refusal → Option A → Checked A
 obtain n none = refused n
 obtain n (some a) = accepted a
 
--- The number that a call of which only that is asked returns: 0 where all is accepted, else the refusal's.
-unfoldable pub checkedNumber : {A : Type 0} → Checked A → ℕ
+-- The number that opening and checking return to a caller who asks for numbers: 0 where all is accepted, else the refusal's.
+abbrev pub checkedNumber : {A : Type 0} → Checked A → ℕ
 checkedNumber (refused n) = refusalNumber n
 checkedNumber (accepted a) = 0

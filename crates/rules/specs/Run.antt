@@ -5,10 +5,9 @@ use mathlib.Core.Bool.{_&&_}
 use mathlib.Core.List.{List, [], _∷_, _++_}
 use lib.ListN.{length, take, drop}
 use lib.Dec.{leb}
-use Rattle.rules.specs.Syntax.{Deck}
-use Rattle.rules.specs.Refusals.{badStore, badScratch, Refusal, Checked, refused, accepted, andThen as _>>=_, require}
+use Rattle.rules.specs.Refusals.{badStore, badScratch, Checked, refused, accepted, andThen as _>>=_, require}
 use Rattle.rules.specs.Decks.{openDeck, readQuery}
-use Rattle.rules.specs.Goals.{Marked, unmarked, writeGoals, firstGoal}
+use Rattle.rules.specs.Goals.{unmarked, writeGoals, firstGoal}
 use Rattle.rules.specs.Evaluation.{Stop, Outcome, evaluate}
 
 -- The deck's and the query's words, the budget, and the lengths of the answer list, the store and the scratch.

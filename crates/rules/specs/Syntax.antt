@@ -1,5 +1,5 @@
 -- Literals, clauses, decks and goals as trees (document 01, "The deck" and "Goals").
-use Prim.Native.Nat.{ℕ, zero, suc, max}
+use Prim.Native.Nat.{ℕ, max}
 use mathlib.Core.List.{List, [], _∷_}
 use Rattle.rules.specs.Terms.{Terms, tops, varsTerms}
 

@@ -1,7 +1,7 @@
 -- Terms as trees (document 01, "The deck": "A term is a variable or a functor with its terms"), and the walks over them that the rules use.
-use Prim.Native.Nat.{ℕ, zero, suc, _+_, max}
+use Prim.Native.Nat.{ℕ, suc, _+_, max}
 use mathlib.Core.Logic.{ite}
-use mathlib.Core.List.{List, [], _∷_}
+use mathlib.Core.List.{List, _∷_}
 use native.Mathlib.Decide.{ℕ-discrete}
 
 mutual

@@ -19,7 +19,7 @@ applys done ts = ts
 applys (bind x s es) ts = applys es (subs x s ts)
 
 -- What unification comes to, with the number of equations taken from the list, the failing one included.
--- `spent` is said where a bound of the definition is spent, which does not occur (`unify-found`).
+-- `spent` is said where a bound of the definition is spent, which does not occur (`unify-unspent`).
 pub data Unification : Type 0 where
   fails : ℕ → Unification
   spent : Unification
@@ -30,7 +30,7 @@ equations (fails k) = k
 equations spent = 0
 equations (solved k es) = k
 
--- One more equation was taken; one more, which eliminated x.
+-- One more equation was taken; one more, by which x was bound to s.
 abbrev pub tick : Unification → Unification
 tick (fails k) = fails (suc k)
 tick spent = spent
@@ -55,6 +55,8 @@ module _ (next shorter : Terms → Terms → Unification) where
   unifyFront (app f us) (app g vs) l r =
       dite (ℕ-discrete f g) (λ _. dite (ℕ-discrete (count us) (count vs)) (λ _. tick (shorter (us +++ l) (vs +++ r))) (λ _. fails 1)) (λ _. fails 1)
 
+  -- Lists of different length do not occur on an opened deck, nor do equal functors with different numbers of arguments; they fail, so
+  -- that the definition is total.
   unfoldable pub unifyStep : Terms → Terms → Unification
   unifyStep nil nil = solved 0 done
   unifyStep nil (cons b r) = fails 0

@@ -6,7 +6,7 @@ use mathlib.Core.List.{List, [], _∷_}
 use lib.ListN.{length}
 use Rattle.rules.specs.Terms.{Term, var, app, Terms, nil, cons, count}
 use Rattle.rules.specs.Syntax.{Symbol, functor, predicate, Literal, pos, neg, Clause, Deck, Goal, varsLiterals, varsGoal}
-use Rattle.rules.specs.Cells.{function, positive, negative, readCell, numbered}
+use Rattle.rules.specs.Cells.{writeLiterals, function, positive, negative, readCell, numbered}
 use Rattle.rules.specs.Decks.{writeClause, clausesCells}
 use Rattle.rules.specs.Goals.{Marked, goalWords}
 
@@ -16,6 +16,7 @@ All P [] = Unit {0}
 All P (x ∷ xs) = P x × All P xs
 
 -- Each symbol is a functor or a predicate of the deck, as its place asks, and is followed by as many terms as its arity.
+-- (A variable's bound of 1,023 follows from the numbering and the length.)
 abbrev mutual
   pub WfTerm : List Symbol → Term → Type 0
   WfTerm S (var v) = Unit {0}
@@ -58,6 +59,7 @@ pub record WfDeck (d : Deck) : Type 0 where
 pub record WfQuery (S : List Symbol) (query : List Literal) : Type 0 where
   pub literals : WfLiterals S query
   pub inOrder : InOrder (varsLiterals query)
+  pub short : length (writeLiterals query) ≤ 500
 
 -- A goal of at most 1,024 words, numbered by first appearance, answer terms first.
 pub record WfGoal (S : List Symbol) (g : Goal) : Type 0 where
