@@ -1,0 +1,115 @@
+//! `bench`: steps and clauses tried per second. Buffers are cleared once, before the first run of a deck.
+//! `bench deck NAME FILE`: writes the words of the deck `leads` or `chain` to a file.
+
+use second::judge::{Lent, Report};
+use std::time::{Duration, Instant};
+
+const VARIABLE: u16 = 32768;
+const NOT: u16 = 16384;
+
+/// A deck's words from its symbol words and the cells of its clauses.
+fn deck(symbols: Vec<u16>, clauses: &[Vec<u16>]) -> Vec<u16> {
+    let cells: usize = clauses.iter().map(Vec::len).sum();
+    let (s, c, t) = (symbols.len() as u16, clauses.len() as u16, cells as u16);
+    let mut words = vec![1, s, 8, c, 8 + s, t, 8 + s + c, 8 + s + c + t];
+    words.extend(symbols);
+    let mut start = 0;
+    for clause in clauses {
+        words.push(start);
+        start += clause.len() as u16;
+    }
+    words.extend(clauses.iter().flatten());
+    words
+}
+
+/// Ends c0 .. , three quarters of them drawn; x is a lead if x is an end and not drawn.
+fn leads(ends: u16) -> (Vec<u16>, Vec<u16>) {
+    let (end, drawn, lead) = (ends, ends + 1, ends + 2);
+    let mut symbols = vec![0; ends as usize];
+    symbols.extend([257; 3]);
+    let mut clauses: Vec<Vec<u16>> = (0..ends).map(|c| vec![end, c]).collect();
+    clauses.extend((0..ends / 4 * 3).map(|c| vec![drawn, c]));
+    clauses.push(vec![lead, VARIABLE, end, VARIABLE, NOT + drawn, VARIABLE]);
+    (deck(symbols, &clauses), vec![lead, VARIABLE])
+}
+
+/// Links c0 to c1 to .. ; what is reached from c0; x is cut off if it is not reached.
+fn chain(stations: u16) -> (Vec<u16>, Vec<u16>) {
+    let (link, reach, e, cut) = (stations, stations + 1, stations + 2, stations + 3);
+    let (x, y, z) = (VARIABLE, VARIABLE + 1, VARIABLE + 2);
+    let mut symbols = vec![0; stations as usize];
+    symbols.extend([258, 258, 257, 257]);
+    let mut clauses: Vec<Vec<u16>> = (0..stations - 1).map(|c| vec![link, c, c + 1]).collect();
+    clauses.push(vec![reach, x, y, link, x, y]);
+    clauses.push(vec![reach, x, y, link, x, z, reach, z, y]);
+    clauses.extend((0..stations).map(|c| vec![e, c]));
+    clauses.push(vec![cut, x, e, x, NOT + reach, 0, x]);
+    (deck(symbols, &clauses), vec![cut, VARIABLE])
+}
+
+/// p(x1, .., xn, xn) against p(f(y1, y1), .., f(yn, yn), z): the terms double, the derived goal is small.
+fn doubling(n: u16) -> (Vec<u16>, Vec<u16>) {
+    let (f, p) = (0, 1);
+    let mut head = vec![p];
+    let mut query = vec![p];
+    for i in 0..n {
+        query.push(VARIABLE + i);
+        head.extend([f, VARIABLE + i, VARIABLE + i]);
+    }
+    (deck(vec![2, 256 + n], &[head]), query)
+}
+
+struct Timed {
+    report: Report,
+    each: Duration,
+}
+
+fn timed(deck: &[u16], query: &[u16]) -> Timed {
+    let (mut answers, mut store, mut scratch) = (vec![0; 8192], vec![0; 16384], vec![0; 8192]);
+    let mut report = Report::default();
+    let mut runs = 0;
+    let start = Instant::now();
+    while runs < 3 || start.elapsed() < Duration::from_millis(500) {
+        let lent = Lent { answers: &mut answers, store: &mut store, scratch: &mut scratch };
+        let refused = compare::run(deck, query, 100_000, lent, &mut report);
+        assert_eq!(refused, 0, "the deck is accepted");
+        runs += 1;
+    }
+    Timed { report, each: start.elapsed() / runs }
+}
+
+fn show(name: &str, (deck, query): &(Vec<u16>, Vec<u16>), tried: u64) {
+    let t = timed(deck, query);
+    let seconds = t.each.as_secs_f64();
+    let per = |n: f64| n / seconds / 1e6;
+    println!(
+        "{name:16} {:6} words {:6} steps {:5} answers {:9.1?} a run {:7.2} M steps/s {:8.2} M clauses/s",
+        deck.len(),
+        t.report.steps,
+        t.report.answers,
+        t.each,
+        per(t.report.steps as f64),
+        per(tried as f64),
+    );
+}
+
+fn main() {
+    let arguments: Vec<String> = std::env::args().skip(1).collect();
+    if let [_, name, path] = arguments.as_slice() {
+        let (words, _) = if name == "chain" { chain(100) } else { leads(2000) };
+        let bytes: Vec<u8> = words.iter().flat_map(|w| w.to_le_bytes()).collect();
+        std::fs::write(path, bytes).expect("the file is written");
+        return;
+    }
+    // Each `not drawn(c)` is held against every `drawn` fact, and the query against every `end`.
+    for ends in [250, 500, 1000, 2000] {
+        let n = ends as u64;
+        show(&format!("leads {ends}"), &leads(ends), 1 + n + n * (n / 4 * 3));
+    }
+    for stations in [25, 50, 100] {
+        show(&format!("chain {stations}"), &chain(stations), 0);
+    }
+    for n in [5, 10, 15] {
+        show(&format!("doubling {n}"), &doubling(n), 1);
+    }
+}

@@ -1,0 +1,9 @@
+pub mod TakeLaws
+pub mod CellLaws
+pub mod SeenLaws
+pub mod TrailLaws
+pub mod OccursLaws
+pub mod BindLaws
+pub mod RanLaws
+pub mod WrittenLaws
+pub mod DifferLaws

@@ -1,0 +1,5 @@
+pub mod Taking
+pub mod Cells
+pub mod Bindings
+pub mod Outcomes
+pub mod Written

@@ -1,0 +1,92 @@
+//! A safe wrapper of the engine's C calls (`include/leads.h`).
+
+use second::judge::{Engine, Lent, Report};
+
+mod c {
+    extern "C" {
+        pub fn leads_open(deck: *const u16, deck_words: usize) -> u32;
+        pub fn leads_check(
+            deck: *const u16,
+            deck_words: usize,
+            query: *const u16,
+            query_words: usize,
+        ) -> u32;
+        #[allow(clippy::too_many_arguments)]
+        pub fn leads_run(
+            deck: *const u16,
+            deck_words: usize,
+            query: *const u16,
+            query_words: usize,
+            budget: u32,
+            answers: *mut u16,
+            answer_words: usize,
+            store: *mut u16,
+            store_words: usize,
+            scratch: *mut u16,
+            scratch_words: usize,
+            stop: *mut u32,
+            steps: *mut u32,
+            answer_count: *mut u64,
+            pending: *mut u32,
+            parked: *mut u32,
+        ) -> u32;
+    }
+}
+
+/// 0, or the refusal's number, 1 to 5.
+pub fn open(deck: &[u16]) -> u32 {
+    unsafe { c::leads_open(deck.as_ptr(), deck.len()) }
+}
+
+/// 0, or the refusal's number, 1 to 7.
+pub fn check(deck: &[u16], query: &[u16]) -> u32 {
+    unsafe { c::leads_check(deck.as_ptr(), deck.len(), query.as_ptr(), query.len()) }
+}
+
+/// 0 and the report filled in, or the refusal's number, 1 to 9, with nothing touched.
+pub fn run(deck: &[u16], query: &[u16], budget: u32, lent: Lent<'_>, report: &mut Report) -> u32 {
+    unsafe {
+        c::leads_run(
+            deck.as_ptr(),
+            deck.len(),
+            query.as_ptr(),
+            query.len(),
+            budget,
+            lent.answers.as_mut_ptr(),
+            lent.answers.len(),
+            lent.store.as_mut_ptr(),
+            lent.store.len(),
+            lent.scratch.as_mut_ptr(),
+            lent.scratch.len(),
+            &mut report.stop,
+            &mut report.steps,
+            &mut report.answers,
+            &mut report.pending,
+            &mut report.parked,
+        )
+    }
+}
+
+/// The engine behind the calls that the second evaluator judges.
+pub struct Leads;
+
+impl Engine for Leads {
+    fn open(&self, deck: &[u16]) -> u32 {
+        open(deck)
+    }
+
+    fn check(&self, deck: &[u16], query: &[u16]) -> u32 {
+        check(deck, query)
+    }
+
+    fn run(
+        &self,
+        deck: &[u16],
+        query: &[u16],
+        budget: u32,
+        lent: Lent<'_>,
+        report: &mut Report,
+    ) -> u32 {
+        run(deck, query, budget, lent, report)
+    }
+}
