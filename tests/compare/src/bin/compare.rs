@@ -16,6 +16,7 @@ fn main() {
     };
     let (cases, first) = (number(100_000), number(0));
     let vectors = vectors();
+    deepest();
     let start = Instant::now();
     for seed in first..first + cases {
         hold(&case(seed));
@@ -33,6 +34,22 @@ fn vectors() -> usize {
         hold(case);
     }
     runs.len()
+}
+
+/// 32 nested levels, each on a goal of a term that is as deep as a query can have it, matched with itself on every level:
+/// p(x) if not q(x, x); q(y, y) if not p(y); query p(f(.. f(a) ..)).
+fn deepest() {
+    let (a, f, p, q) = (0, 1, 2, 3);
+    let (variable, not) = (32768, 16384);
+    let cells = [p, variable, not + q, variable, variable, q, variable, variable, not + p, variable];
+    let mut deck = vec![1, 4, 8, 2, 12, 10, 14, 24, 0, 1, 257, 258, 0, 5];
+    deck.extend(cells);
+    let mut query = vec![p];
+    query.extend(vec![f; 498]);
+    query.push(a);
+    let name = "32 levels of the deepest goals".to_string();
+    let (budget, answer_words, store_words, scratch_words) = (100_000, 8192, 65_535, 8192);
+    hold(&Case { name, deck, query, budget, answer_words, store_words, scratch_words });
 }
 
 fn hold(case: &Case) {

@@ -1,0 +1,221 @@
+-- The public run put together: which refusal it returns, and an accepted run from what level 0 left.
+use Prim.Native.Nat.{ℕ, zero, suc, _-_, _≤_, _<_}
+use mathlib.Core.Path.{_≡_, refl, sym, _∙_, ap, subst}
+use mathlib.Core.Bool.{Bool, true, false, _&&_, and-eq-true-iff}
+use mathlib.Core.List.{List, [], _∷_, _++_}
+use native.Mathlib.Omega.{arith}
+use lib.ListN.{length, getD, drop, replicate, length-replicate, getD-replicate}
+use lib.Dec.{leb}
+use borrow.Author.Tests.{le-leb, lt-leb, leb-true}
+use Rattle.rules.specs.Syntax.{Literal, Deck}
+use Rattle.rules.specs.Refusals.{Refusal, badHeader, badSymbol, badStarts, longClause, badClause, longQuery, badQuery, badStore, badScratch, refusalNumber, Checked, refused, accepted, andThen, require, checkedNumber}
+use Rattle.rules.specs.Decks.{openDeck, readQuery, checkQuery, symbolWords}
+use Rattle.rules.specs.Goals.{unmarked, writeGoals, wordsOf, firstGoal}
+use Rattle.rules.specs.Evaluation.{Outcome, evaluate, outcome, stopOf}
+use Rattle.rules.specs.Run.{run, report, returned, answersAfter, storeStart, Slices, Leaves, runOn, Ran}
+use Rattle.rules.proofs.GoalLaws.{goals-length, unmarked-words}
+use Rattle.rules.proofs.DeckLaws.{steps-open, query-reads}
+use Rattle.rules.proofs.Demand3.{Accepted, run-accepted}
+use Rattle.deck.specs.declared.Refusal as declared
+use Rattle.deck.specs.declared.Refusal.the-variants as kinds
+use Rattle.deck.specs.declared.Checked.the-variants as answer
+use Rattle.deck.specs.Answers.{numberOf}
+use Rattle.report.specs.Reports.{stopOf as stopOf′}
+use Rattle.report.specs.declared.Report.{Report}
+use Rattle.resolvents.specs.Deriving.{Rows}
+use Rattle.evaluation.specs.Top.{Queries, Topped, refusalFor, resultOf, slices}
+use Rattle.evaluation.specs.declared.Ran.the-variants as kind
+
+-- THE NUMBERS OF REFUSALS determine them.
+abbrev numbered : ℕ → Refusal
+numbered zero = badHeader
+numbered (suc zero) = badHeader
+numbered (suc (suc zero)) = badSymbol
+numbered (suc (suc (suc zero))) = badStarts
+numbered (suc (suc (suc (suc zero)))) = longClause
+numbered (suc (suc (suc (suc (suc zero))))) = badClause
+numbered (suc (suc (suc (suc (suc (suc zero)))))) = longQuery
+numbered (suc (suc (suc (suc (suc (suc (suc zero))))))) = badQuery
+numbered (suc (suc (suc (suc (suc (suc (suc (suc zero)))))))) = badStore
+numbered (suc (suc (suc (suc (suc (suc (suc (suc (suc n))))))))) = badScratch
+
+number-of : (r : Refusal) → (0 < refusalNumber r) × (numbered (refusalNumber r) ≡ r)
+number-of badHeader = (omega arith, refl)
+number-of badSymbol = (omega arith, refl)
+number-of badStarts = (omega arith, refl)
+number-of longClause = (omega arith, refl)
+number-of badClause = (omega arith, refl)
+number-of longQuery = (omega arith, refl)
+number-of badQuery = (omega arith, refl)
+number-of badStore = (omega arith, refl)
+number-of badScratch = (omega arith, refl)
+
+number-for : (why : declared.Refusal) → numberOf (answer.Refused why) ≡ refusalNumber (refusalFor why)
+number-for kinds.Header = refl
+number-for kinds.Symbol = refl
+number-for kinds.Starts = refl
+number-for kinds.LongClause = refl
+number-for kinds.Clause = refl
+number-for kinds.LongQuery = refl
+number-for kinds.Query = refl
+number-for kinds.Store = refl
+number-for kinds.Scratch = refl
+
+module _ {A : Type 0} where
+  pub number-accepts : (c : Checked A) → 0 ≡ checkedNumber c → (a : A) × (c ≡ accepted a)
+  number-accepts (refused n) e = absurd (omega (arith, number-of n .0))
+  number-accepts (accepted a) e = (a, refl)
+
+  pub number-refuses : (why : declared.Refusal) (c : Checked A) → numberOf (answer.Refused why) ≡ checkedNumber c → c ≡ refused (refusalFor why)
+  number-refuses why (refused n) e =
+      ap refused (sym (number-of n .1) ∙ ap numbered (sym e ∙ number-for why) ∙ number-of (refusalFor why) .1)
+  number-refuses why (accepted a) e = absurd (omega (arith, number-for why, number-of (refusalFor why) .0))
+
+-- CHECKS ONE AFTER THE OTHER
+module _ {A B : Type 0} where
+  passes : (c : Checked A) (next : A → Checked B) (b : B) → andThen c next ≡ accepted b → (a : A) × (c ≡ accepted a) × (next a ≡ accepted b)
+  unfolding andThen
+  passes (refused n) next b e = absurd (let z : _≡_ {A = ℕ} 0 1 = cc in omega arith)
+  passes (accepted a) next b e = (a, refl, e)
+
+  refuses : {C : Type 0} (c : Checked A) (next : A → Checked B) (later : A → B → Checked C) (n : Refusal) → andThen c next ≡ refused n
+      → andThen c (λ a. andThen (next a) (later a)) ≡ refused n
+  unfolding andThen
+  refuses (refused m) next later n e = let q : m ≡ n = cc in ap refused q
+  refuses (accepted a) next later n e = rw e
+
+required : (n : Refusal) (b : Bool) (u : Unit {0}) → require n b ≡ accepted u → b ≡ true
+unfolding require
+required n true u e = refl
+required n false u e = absurd (let z : _≡_ {A = ℕ} 0 1 = cc in omega arith)
+
+module _ (deckWords queryWords : List ℕ) (total answerRoom storeSize scratchSize : ℕ) where
+  pub run-refused : (n : Refusal) → checkQuery deckWords queryWords ≡ refused n → run deckWords queryWords total answerRoom storeSize scratchSize ≡ refused n
+  unfolding run checkQuery
+  run-refused n e = refuses (openDeck deckWords) (λ d. readQuery d queryWords) _ n e
+
+  -- The deck and the query are accepted: the sizes are left.
+  module _ (q : List Literal) (e : checkQuery deckWords queryWords ≡ accepted q) where
+    opened : (d : Deck) × (openDeck deckWords ≡ accepted d) × (readQuery d queryWords ≡ accepted q)
+    unfolding checkQuery
+    opened = passes (openDeck deckWords) (λ d. readQuery d queryWords) q e
+
+    sizes : run deckWords queryWords total answerRoom storeSize scratchSize
+        ≡ andThen (require badStore (leb 1024 storeSize && leb storeSize 65535))
+        (λ _. andThen (require badScratch (leb 8192 scratchSize)) (λ _. accepted (evaluate (opened .0) answerRoom storeSize (firstGoal q ∷ []) [] total)))
+    unfolding run andThen
+    sizes = rw (opened .1, opened .2)
+
+    pub store-small : storeSize < 1024 → run deckWords queryWords total answerRoom storeSize scratchSize ≡ refused badStore
+    unfolding andThen require
+    store-small h = sizes ∙ rw (lt-leb 1024 storeSize h)
+
+    pub store-large : 65535 < storeSize → run deckWords queryWords total answerRoom storeSize scratchSize ≡ refused badStore
+    unfolding andThen require
+    store-large h = sizes ∙ rw (le-leb 1024 storeSize (omega arith), lt-leb storeSize 65535 h)
+
+    module _ (least : 1024 ≤ storeSize) (most : storeSize ≤ 65535) where
+      pub scratch-small : scratchSize < 8192 → run deckWords queryWords total answerRoom storeSize scratchSize ≡ refused badScratch
+      unfolding andThen require
+      scratch-small h = sizes ∙ rw (le-leb 1024 storeSize least, le-leb storeSize 65535 most, lt-leb 8192 scratchSize h)
+
+      pub sizes-fit : 8192 ≤ scratchSize → checkedNumber (run deckWords queryWords total answerRoom storeSize scratchSize) ≡ 0
+      unfolding andThen require
+      sizes-fit h =
+          let r : run deckWords queryWords total answerRoom storeSize scratchSize ≡ accepted (evaluate (opened .0) answerRoom storeSize (firstGoal q ∷ []) [] total) =
+          sizes ∙ rw (le-leb 1024 storeSize least, le-leb storeSize 65535 most, le-leb 8192 scratchSize h) in
+          ap (λ (c : Checked Outcome). checkedNumber c) r
+
+  -- AN ACCEPTED RUN: what it evaluates, and the sizes.
+  pub record Accepts : Type 0 where
+    pub outcome′ : Outcome
+    pub runs : run deckWords queryWords total answerRoom storeSize scratchSize ≡ accepted outcome′
+    pub is : Accepted deckWords queryWords total answerRoom storeSize outcome′
+    pub least : 1024 ≤ storeSize
+    pub most : storeSize ≤ 65535
+    pub scratch : 8192 ≤ scratchSize
+
+  pub run-accepts : 0 ≡ checkedNumber (run deckWords queryWords total answerRoom storeSize scratchSize) → Accepts
+  unfolding run
+  run-accepts z =
+      let r = number-accepts (run deckWords queryWords total answerRoom storeSize scratchSize) z in
+      let d = passes (openDeck deckWords) _ (r .0) (r .1) in
+      let q = passes (readQuery (d .0) queryWords) _ (r .0) (d .2) in
+      let s = passes (require badStore (leb 1024 storeSize && leb storeSize 65535)) _ (r .0) (q .2) in
+      let t = passes (require badScratch (leb 8192 scratchSize)) _ (r .0) (s .2) in
+      let b = and-eq-true-iff (leb 1024 storeSize) (leb storeSize 65535) .0 (required badStore (leb 1024 storeSize && leb storeSize 65535) (s .0) (s .1)) in
+      record {
+        outcome′ = r .0;
+        runs = r .1;
+        is = run-accepted deckWords queryWords total answerRoom storeSize scratchSize (r .0) (r .1);
+        least = leb-true 1024 storeSize (b .0);
+        most = leb-true storeSize 65535 (b .1);
+        scratch = leb-true 8192 scratchSize (required badScratch (leb 8192 scratchSize) (t .0) (t .1));
+      }
+
+pub accepted-query : {deckWords queryWords : List ℕ} {total answerRoom storeSize : ℕ} {o : Outcome} (a : Accepted deckWords queryWords total answerRoom storeSize o)
+    → Queries (symbolWords deckWords) queryWords (a .deck .symbols) (a .query)
+accepted-query {deckWords} {queryWords} a =
+    let q = query-reads (a .deck) queryWords (a .query) (a .asks) in
+    record { symbols = steps-open deckWords (a .deck) (a .opens) .symbols; wellFormed = q .1; are = q .0 }
+
+-- The arrays of a run at its start.
+zeros : (n w : ℕ) → _≡_ {A = ℕ} (getD (replicate n 0) w 0) 0
+zeros zero w = refl
+zeros (suc n) zero = refl
+zeros (suc n) (suc w) = zeros n w
+
+pub blank-rows : (n m : ℕ) → n ≡ 1280 → m ≡ 1024
+    → Rows (replicate n 65535) (replicate n 0) (replicate n 0) (replicate n 65535) (replicate n 0) (replicate m 0)
+blank-rows n m e f =
+    let few = length-replicate {A = ℕ} n 65535 in
+    let none = length-replicate {A = ℕ} n 0 in
+    record {
+      blank = record { free = λ v h. getD-replicate {A = ℕ} n v 65535 0 (omega arith); unmarked = zeros n };
+      unnamed = λ v h. getD-replicate {A = ℕ} n v 65535 0 (omega arith);
+      bindLength = few ∙ e;
+      trailLength = none ∙ e;
+      marksLength = none ∙ e;
+      namesLength = few ∙ e;
+      orderLength = none ∙ e;
+      childLength = length-replicate {A = ℕ} m 0 ∙ f;
+    }
+
+-- THE RUN, refused and accepted.
+pub ran-refused : (deckWords queryWords : List ℕ) (total : ℕ) (s : Slices) (why : declared.Refusal)
+    → numberOf (answer.Refused why) ≡ checkedNumber (runOn deckWords queryWords total s) → Ran deckWords queryWords total s (resultOf (kind.Refused why)) s
+unfolding returned Leaves
+ran-refused deckWords queryWords total s why e =
+    let r = number-refuses why (runOn deckWords queryWords total s) e in
+    record { returns = sym (ap returned r); leaves = subst (λ (c : Checked Outcome). Leaves c s s) (sym r) refl }
+
+module _ (deckWords queryWords : List ℕ) (total : ℕ) (answers store scratch answers′ store₁ store′ scratch′ : List ℕ) (r : Report) where
+  pub ran-accepted : (a : Accepts deckWords queryWords total (length answers) (length store) (length scratch)) → length store₁ ≡ length store
+      → length store′ ≡ length store → length scratch′ ≡ length scratch
+      → Topped (a .is .deck) answers store₁ (firstGoal (a .is .query) ∷ []) total answers′ store′ r
+      → Ran deckWords queryWords total (slices answers store scratch) (resultOf (kind.Done r)) (slices answers′ store′ scratch′)
+  unfolding evaluate outcome stopOf returned report Leaves runOn answersAfter storeStart
+  ran-accepted a first same rest t =
+      let l = t .level in
+      let o : Outcome = record { stop = stopOf′ (r .stop); steps = r .steps; answers = l .answers; pending = l .pending; parked = l .parked } in
+      let steps : total - (total - r .steps) ≡ r .steps = omega (arith, t .within) in
+      let is : run deckWords queryWords total (length answers) (length store) (length scratch) ≡ accepted o =
+      a .runs
+      ∙ ap accepted
+      (a .is .evaluates
+      ∙ ap (λ (n : ℕ). evaluate (a .is .deck) (length answers) n (firstGoal (a .is .query) ∷ []) [] total) (sym first)
+      ∙ ap (outcome total) (t .ends)
+      ∙ ap {B = Outcome} (λ (n : ℕ). record { stop = stopOf′ (r .stop); steps = n; answers = l .answers; pending = l .pending; parked = l .parked }) steps) in
+      let n : length (writeGoals (unmarked (l .answers))) ≡ wordsOf (l .answers) = goals-length (unmarked (l .answers)) ∙ unmarked-words (l .answers) in
+      record {
+        returns =
+            (λ i. accepted (record { stop = stopOf′ (r .stop); steps = r .steps; answers = t .answered i; pending = t .ordered .pending i; parked = t .ordered .parked i }))
+            ∙ ap returned (sym is);
+        leaves = subst (λ (c : Checked Outcome). Leaves c (slices answers store scratch) (slices answers′ store′ scratch′)) (sym is)
+            (record {
+              answers = t .listed ∙ ap (λ (k : ℕ). writeGoals (unmarked (l .answers)) ++ drop k answers) (sym n);
+              store = t .ordered .begins;
+              storeLength = same;
+              scratchLength = rest;
+            });
+      }

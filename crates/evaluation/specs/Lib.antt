@@ -1,0 +1,4 @@
+pub mod Store
+pub mod Derives
+pub mod Levels
+pub mod Top

@@ -1,0 +1,105 @@
+// The evaluation on words, and the public run.
+ghost use mathlib.Core.Path.{_≡_};
+ghost use Prim.Native.Nat.{ℕ, _≤_};
+ghost use lib.ListN.{length};
+ghost use Rattle.rules.specs.Refusals.{checkedNumber};
+ghost use Rattle.rules.specs.Run.{run};
+ghost use Rattle.deck.specs.Answers.{numberOf};
+ghost use Rattle.evaluation.specs.Top.{resultOf, slices};
+
+pub mod derive;
+pub mod goals;
+pub mod levels;
+pub mod top;
+
+use deck::Checked;
+use deck::Refusal;
+use report::Report;
+
+// Why a goal is parked: floundered, undecided, oversized, deep.
+pub enum Mark {
+    Floundered,
+    Undecided,
+    Oversized,
+    Deep,
+}
+
+// What a run returns: a refusal, or its report.
+pub enum Ran {
+    Refused(Refusal),
+    Done(Report),
+}
+
+// Refusals 1 to 7 of the deck and the query, then 8 and 9 of the sizes of the store and the scratch.
+fn refusal(deck: &[u16], query: &[u16], store: usize, scratch: usize) -> Checked
+    ensures { λ r. ⌜ ((budget answerRoom : ℕ) → numberOf r ≡ checkedNumber (run (now (deck .entry)) (now (query .entry)) budget answerRoom store scratch)) ⌝ }
+{
+    match deck::check(deck, query) {
+        Checked::Refused(why) => Checked::Refused(why),
+        Checked::Accepted => {
+            if store < 1024 {
+                return Checked::Refused(Refusal::Store);
+            }
+            if 65535 < store {
+                return Checked::Refused(Refusal::Store);
+            }
+            if scratch < 8192 {
+                return Checked::Refused(Refusal::Scratch);
+            }
+            Checked::Accepted
+        }
+    }
+}
+
+// THE PUBLIC RUN. A refusal leaves answers, store and scratch untouched. An accepted run fills the answer list from its start, and the
+// store begins with the pending goals in order, then the parked ones in order of parking; the rest of the store and the scratch are free.
+pub fn run(
+    deck: &[u16],
+    query: &[u16],
+    budget: u32,
+    answers: &mut [u16],
+    store: &mut [u16],
+    scratch: &mut [u16],
+) -> Ran
+    ensures { λ r. ⌜ Rattle.rules.specs.Run.Ran (now (deck .entry)) (now (query .entry)) budget (slices (now (answers .entry)) (now (store .entry)) (now (scratch .entry))) (resultOf r) (slices (now (answers .exit)) (now (store .exit)) (now (scratch .exit))) ⌝ }
+{
+    match refusal(deck, query, store.len(), scratch.len()) {
+        Checked::Refused(why) => Ran::Refused(why),
+        Checked::Accepted => Ran::Done(accepted(deck, query, budget, answers, store, scratch)),
+    }
+}
+
+// The run of a deck and a query that are accepted, on buffers of the right sizes.
+fn accepted(
+    deck: &[u16],
+    query: &[u16],
+    budget: u32,
+    answers: &mut [u16],
+    store: &mut [u16],
+    scratch: &mut [u16],
+) -> Report
+    requires { ⌜ checkedNumber (run (now deck) (now query) budget (length (now answers)) (length (now store)) (length (now scratch))) ≡ 0 ⌝ }
+    ensures { λ r. ⌜ Rattle.rules.specs.Run.Ran (now (deck .entry)) (now (query .entry)) budget (slices (now (answers .entry)) (now (store .entry)) (now (scratch .entry))) (resultOf (Ran.Done r)) (slices (now (answers .exit)) (now (store .exit)) (now (scratch .exit))) ⌝ }
+{
+    let mut bind = [65535u16; 1280];
+    let mut trail = [0u16; 1280];
+    let mut marks = [0u16; 1280];
+    let mut names = [65535u16; 1280];
+    let mut order = [0u16; 1280];
+    let mut child = [0u16; 1024];
+    let start = top::first(query, store);
+    top::top(
+        deck,
+        start,
+        budget,
+        answers,
+        store,
+        scratch,
+        &mut bind,
+        &mut trail,
+        &mut marks,
+        &mut names,
+        &mut order,
+        &mut child,
+    )
+}

@@ -1,0 +1,51 @@
+// The engine for C and Rust (include/leads.h). Each call returns 0, or the refusal's number with nothing touched.
+ghost use mathlib.Core.Path.{_≡_};
+ghost use Rattle.rules.specs.Refusals.{checkedNumber};
+ghost use Rattle.rules.specs.Decks.{openDeck, checkQuery};
+ghost use Rattle.leads_c.specs.Calls.{Called, numbers, lent};
+use deck::Checked;
+use evaluation::Ran;
+
+#[no_mangle]
+pub extern "C" fn leads_open(deck: &[u16]) -> u32
+    ensures { λ r. ⌜ r ≡ checkedNumber (openDeck (now (deck .entry))) ⌝ }
+{
+    deck::number(deck::open(deck))
+}
+
+#[no_mangle]
+pub extern "C" fn leads_check(deck: &[u16], query: &[u16]) -> u32
+    ensures { λ r. ⌜ r ≡ checkedNumber (checkQuery (now (deck .entry)) (now (query .entry))) ⌝ }
+{
+    deck::number(deck::check(deck, query))
+}
+
+#[no_mangle]
+pub extern "C" fn leads_run(
+    deck: &[u16],
+    query: &[u16],
+    budget: u32,
+    answers: &mut [u16],
+    store: &mut [u16],
+    scratch: &mut [u16],
+    stop: &mut u32,
+    steps: &mut u32,
+    answer_count: &mut u64,
+    pending: &mut u32,
+    parked: &mut u32,
+) -> u32
+    ensures { λ r. ⌜ Called (now (deck .entry)) (now (query .entry)) budget (lent (now (answers .entry)) (now (store .entry)) (now (scratch .entry))) (numbers (now (stop .entry)) (now (steps .entry)) (now («answer_count» .entry)) (now (pending .entry)) (now (parked .entry))) r (lent (now (answers .exit)) (now (store .exit)) (now (scratch .exit))) (numbers (now (stop .exit)) (now (steps .exit)) (now («answer_count» .exit)) (now (pending .exit)) (now (parked .exit))) ⌝ }
+{
+    match evaluation::run(deck, query, budget, answers, store, scratch) {
+        Ran::Refused(why) => deck::number(Checked::Refused(why)),
+        Ran::Done(report) => {
+            let why = report.stop;
+            *stop = report::stop_number(why);
+            *steps = report.steps;
+            *answer_count = report.answers;
+            *pending = report.pending;
+            *parked = report.parked;
+            0
+        }
+    }
+}

@@ -1,0 +1,4 @@
+pub mod Put
+pub mod Digits
+pub mod Standing
+pub mod Shown

@@ -1,0 +1,10 @@
+pub mod NamingLaws
+pub mod WroteLaws
+pub mod WalkLaws
+pub mod CellTrees
+pub mod RowLaws
+pub mod VariableLaws
+pub mod PassedLaws
+pub mod ChildLaws
+pub mod ResolventLaws
+pub mod CallLaws
