@@ -50,7 +50,7 @@ number-of badQuery = (omega arith, refl)
 number-of badStore = (omega arith, refl)
 number-of badScratch = (omega arith, refl)
 
-number-for : (why : declared.Refusal) → numberOf (answer.Refused why) ≡ refusalNumber (refusalFor why)
+pub number-for : (why : declared.Refusal) → numberOf (answer.Refused why) ≡ refusalNumber (refusalFor why)
 number-for kinds.Header = refl
 number-for kinds.Symbol = refl
 number-for kinds.Starts = refl

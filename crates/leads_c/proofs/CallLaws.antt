@@ -10,22 +10,11 @@ use Rattle.report.specs.declared.Report.{Report}
 use Rattle.deck.specs.Answers.{numberOf}
 use Rattle.deck.specs.declared.Checked.the-variants as checked
 use Rattle.deck.specs.declared.Refusal.{Refusal}
-use Rattle.deck.specs.declared.Refusal.the-variants.{Header, Symbol, Starts, LongClause, Clause, LongQuery, Query, Store, Scratch}
+use Rattle.evaluation.proofs.RunLaws.{number-for}
 use Rattle.evaluation.specs.Top.{refusalFor, resultOf}
 use Rattle.evaluation.specs.declared.Ran.{Ran}
 use Rattle.evaluation.specs.declared.Ran.the-variants.{Refused, Done}
 use Rattle.leads_c.specs.Calls.{Numbers, numbers, Called}
-
-number-for : (why : Refusal) → numberOf (checked.Refused why) ≡ refusalNumber (refusalFor why)
-number-for Header = refl
-number-for Symbol = refl
-number-for Starts = refl
-number-for LongClause = refl
-number-for Clause = refl
-number-for LongQuery = refl
-number-for Query = refl
-number-for Store = refl
-number-for Scratch = refl
 
 module _ {deck query : List ℕ} {budget : ℕ} {entry exit : run.Slices} {r : Ran} (ran : run.Ran deck query budget entry (resultOf r) exit) where
   pub called-refused : (why : Refusal) (n : ℕ) (before : Numbers) → r ≡ Refused why → n ≡ numberOf (checked.Refused why) → Called deck query budget entry before n exit before

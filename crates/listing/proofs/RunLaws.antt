@@ -1,5 +1,5 @@
 -- What an accepted run returns and leaves can be listed: whatever report stands for what it returns, with the deck's symbol words.
-use Prim.Native.Nat.{ℕ, _≤_}
+use Prim.Native.Nat.{ℕ}
 use mathlib.Core.Path.{_≡_, refl, sym, subst}
 use mathlib.Core.List.{List, [], _∷_}
 use lib.ListN.{length, drop}
@@ -29,7 +29,7 @@ run-shown deckWords queryWords budget answerRoom storeSize scratchSize o e repor
     let deck = a .deck in
     let query = a .query in
     let q = query-reads deck queryWords query (a .asks) in
-    let first = firstGoal-wf (deck .symbols) query (q .1) (subst (λ ws. length ws ≤ 500) (q .0) (q .2)) in
+    let first = firstGoal-wf (deck .symbols) query (q .1) in
     let kept = evaluate-keeps deck (opened-written deckWords deck (a .opens) .1) answerRoom storeSize (firstGoal query ∷ []) [] budget (first, tt) tt in
     record {
       reported = same;

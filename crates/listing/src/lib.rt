@@ -24,6 +24,7 @@ pub fn put_listing(out: &mut [u8], report: Report, answers: &[u16], symbols: &[u
     requires { ⌜ (length (now answers) ≤ 65535) × (58 + 8 * length (now answers) ≤ length (now out)) ⌝ }
     requires { ⌜ ((o : Outcome) × Shown o report (now answers) (now symbols)) ⌝ }
     ensures { λ r. ⌜ ((o : Outcome) → Shown o report (now (answers .entry)) (now (symbols .entry)) → Put (now (out .entry)) 0 (listing (accepted o)) r (now (out .exit))) ⌝ }
+    ensures { λ r. ⌜ r ≤ 58 + 8 * length (now (answers .entry)) ⌝ }
 {
     let at = lines::put_head(out, report);
     let count = report.answers as usize;

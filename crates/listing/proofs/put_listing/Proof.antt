@@ -40,11 +40,16 @@ same-length : tie.Need-same-length
 same-length c = search needs
 
 returns : tie.Need-returns
-returns c = λ o s.
-    rw (listing-parts o)
-    (put-then
-    (c .before .before .before .before .before .before .put-head .ensures .0 o (s .reported))
-    (c .before .before .put-answers .ensures (o .answers) (s .answers) (same-answers (c .before .before .before .before .before .before .before .before .before .before .before .args .report) o (s .reported))))
+returns c =
+    let start = c .before .before .before .before .before .before .before .before .before .before .before in
+    let r = start .args .report in
+    let h = c .before .before .before .before .before .before .put-head .ensures in
+    let a = c .before .before .put-answers .ensures in
+    let o = start .pre .1 .0 in
+    let s = start .pre .1 .1 in (
+      λ o s. rw (listing-parts o) (put-then (h .0 o (s .reported)) (a (o .answers) (s .answers) (same-answers r o (s .reported)))),
+      omega (arith, h .1, a (o .answers) (s .answers) (same-answers r o (s .reported)) .place, bounds start o s .0),
+    )
 
 pub put-listing-spec : {M : Type 1} → statement M
 put-listing-spec = tie.close (tie.spec put-head-requires put-answers-requires same-length returns)

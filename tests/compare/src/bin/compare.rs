@@ -36,20 +36,64 @@ fn vectors() -> usize {
     runs.len()
 }
 
-/// 32 nested levels, each on a goal of a term that is as deep as a query can have it, matched with itself on every level:
-/// p(x) if not q(x, x); q(y, y) if not p(y); query p(f(.. f(a) ..)).
+/// The cases that go deepest: nested levels, long chains of variables, doubled terms.
 fn deepest() {
-    let (a, f, p, q) = (0, 1, 2, 3);
-    let (variable, not) = (32768, 16384);
-    let cells = [p, variable, not + q, variable, variable, q, variable, variable, not + p, variable];
-    let mut deck = vec![1, 4, 8, 2, 12, 10, 14, 24, 0, 1, 257, 258, 0, 5];
-    deck.extend(cells);
-    let mut query = vec![p];
-    query.extend(vec![f; 498]);
-    query.push(a);
-    let name = "32 levels of the deepest goals".to_string();
+    let (a, f, g, p, q, e) = (0, 1, 2, 3, 4, 5);
+    let (x, y, not) = (32768, 32769, 16384);
+    // p(x) if not q(x, x). q(y, y) if not p(y). e(x, x). e(g(x, y), y). Symbols: a/0 f/1 g/2 p/1 q/2 e/2.
+    let clauses: [&[u16]; 4] = [&[p, x, not + q, x, x], &[q, x, x, not + p, x], &[e, x, x], &[e, g, x, y, y]];
+    let mut deck = vec![1, 6, 8, 4, 14, 18, 18, 36, 0, 1, 2, 257, 258, 258, 0, 5, 10, 13];
+    clauses.iter().for_each(|clause| deck.extend(*clause));
+    let nested = |times: usize| [vec![f; times], vec![a]].concat();
+    // 32 levels, each on a goal of the deepest term that a query can have, matched with itself.
+    hold(&roomy("32 levels", &deck, [vec![p], nested(498)].concat()));
+    hold(&roomy("two deepest terms", &deck, [vec![e], nested(248), nested(248)].concat()));
+    // x0 = x1, x1 = x2, ..: the longest chain of variables that a query can ask for, and the same backwards.
+    for turned in [false, true] {
+        let list = |from: u16| (0..124).flat_map(move |k| [g, x + from + k]).chain([a]).collect::<Vec<u16>>();
+        let (left, right) = if turned { (list(1), list(0)) } else { (list(0), list(1)) };
+        let numbered = renumbered([vec![e], left, right].concat());
+        hold(&roomy("a chain of variables", &deck, numbered));
+    }
+    doubled();
+}
+
+/// p(x1, .., xn) against p(f(y1, y1), .., f(yn, yn)), and with each x tied to the next, so that the terms double.
+fn doubled() {
+    let (f, p) = (0, 1);
+    for n in 1..=15u16 {
+        let tied = |at: u16| vec![f, 32768 + at, 32768 + at];
+        let head: Vec<u16> = [vec![p], (0..n).flat_map(tied).collect()].concat();
+        let (t, start) = (head.len() as u16, vec![0]);
+        let deck = [vec![1, 2, 8, 1, 10, t, 11, 11 + t, 2, 256 + n], start, head].concat();
+        let apart = (0..n).map(|k| 32768 + k);
+        hold(&roomy("doubled", &deck, [p].into_iter().chain(apart).collect()));
+        let next = (0..n).flat_map(|k| if k == 0 { vec![32768] } else { vec![f, 32768 + k - 1, 32768 + k] });
+        hold(&roomy("doubled and tied", &deck, renumbered([p].into_iter().chain(next).collect())));
+    }
+}
+
+/// The query with its variables numbered by first appearance.
+fn renumbered(query: Vec<u16>) -> Vec<u16> {
+    let mut seen: Vec<u16> = Vec::new();
+    let number = |cell: u16| {
+        if cell < 32768 {
+            return cell;
+        }
+        let place = seen.iter().position(|&c| c == cell).unwrap_or_else(|| {
+            seen.push(cell);
+            seen.len() - 1
+        });
+        32768 + place as u16
+    };
+    query.into_iter().map(number).collect()
+}
+
+fn roomy(name: &str, deck: &[u16], query: Vec<u16>) -> Case {
+    assert!(second::check(deck, &query) == 0, "{name} is accepted");
+    let (name, deck) = (name.to_string(), deck.to_vec());
     let (budget, answer_words, store_words, scratch_words) = (100_000, 8192, 65_535, 8192);
-    hold(&Case { name, deck, query, budget, answer_words, store_words, scratch_words });
+    Case { name, deck, query, budget, answer_words, store_words, scratch_words }
 }
 
 fn hold(case: &Case) {
