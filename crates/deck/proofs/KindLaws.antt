@@ -8,10 +8,10 @@ use denote.Enum.Declared.{tagOf}
 use types.Run.{OneOf, miss}
 use borrow.Author.Tests.{le-leb, lt-leb}
 use Rattle.rules.specs.Syntax.{Symbol, functor, predicate}
-use Rattle.rules.specs.Cells.{Cell, variable, function, positive, negative, unknown, symbolCell, negatedCell, variableCell, readCell}
+use Rattle.rules.specs.Cells.{Cell, variable, function, positive, negative, invalid, symbolCell, negatedCell, variableCell, readCell}
 use Rattle.rules.proofs.CellLaws.{cell-variable, Written, cell-written}
 use Rattle.deck.specs.declared.kinds.Kind.{Kind}
-use Rattle.deck.specs.declared.kinds.Kind.the-variants.{Variable, Function, Positive, Negative, Unknown}
+use Rattle.deck.specs.declared.kinds.Kind.the-variants.{Variable, Function, Positive, Negative, Invalid}
 use Rattle.deck.specs.Kinds.{kindOf, arityOf}
 use Rattle.deck.proofs.kinds.Kind.{the-type}
 
@@ -21,7 +21,7 @@ ifPositive f other (Variable v) = other
 ifPositive f other (Function k) = other
 ifPositive f other (Positive k) = f k
 ifPositive f other (Negative k) = other
-ifPositive f other Unknown = other
+ifPositive f other Invalid = other
 
 -- A kind whose tag is one of these.
 abbrev pub Others : List ℕ → Kind → Type 0
@@ -32,9 +32,9 @@ not-positive f other (Variable v) h = refl
 not-positive f other (Function k) h = refl
 not-positive f other (Positive k) h = absurd (miss (0 ∷ 1 ∷ 3 ∷ 4 ∷ []) 2 tt h)
 not-positive f other (Negative k) h = refl
-not-positive f other Unknown h = refl
+not-positive f other Invalid h = refl
 
-pub negated-kind : (n : ℕ) (o : Option Symbol) → kindOf (negatedCell n o) ≡ ifPositive Negative Unknown (kindOf (symbolCell n o))
+pub negated-kind : (n : ℕ) (o : Option Symbol) → kindOf (negatedCell n o) ≡ ifPositive Negative Invalid (kindOf (symbolCell n o))
 unfolding negatedCell symbolCell
 negated-kind n none = refl
 negated-kind n (some (functor k)) = refl
@@ -46,14 +46,14 @@ none-follow (Variable v) h = refl
 none-follow (Function k) h = absurd (miss (0 ∷ 4 ∷ []) 1 tt h)
 none-follow (Positive k) h = absurd (miss (0 ∷ 4 ∷ []) 2 tt h)
 none-follow (Negative k) h = absurd (miss (0 ∷ 4 ∷ []) 3 tt h)
-none-follow Unknown h = refl
+none-follow Invalid h = refl
 
 -- A variable's cell by its number.
 pub read-variable : (S : List Symbol) (c : ℕ) → 32768 ≤ c → c - 32768 ≤ 1023 → readCell S c ≡ variable (c - 32768)
 unfolding variableCell
 read-variable S c h l = cell-variable S c h ∙ rw (le-leb (c - 32768) 1023 l, variableCell)
 
-pub read-over : (S : List Symbol) (c : ℕ) → 32768 ≤ c → 1023 < c - 32768 → readCell S c ≡ unknown
+pub read-over : (S : List Symbol) (c : ℕ) → 32768 ≤ c → 1023 < c - 32768 → readCell S c ≡ invalid
 unfolding variableCell
 read-over S c h l = cell-variable S c h ∙ rw (lt-leb (c - 32768) 1023 l, variableCell)
 
@@ -66,4 +66,4 @@ small-variable S c v e = go (readCell S c) (cell-written S c) e
     go (function f k) w q = absurd (let z : _≡_ {A = ℕ} 0 1 = cc in omega arith)
     go (positive p k) w q = absurd (let z : _≡_ {A = ℕ} 0 1 = cc in omega arith)
     go (negative p k) w q = absurd (let z : _≡_ {A = ℕ} 0 1 = cc in omega arith)
-    go unknown w q = absurd (let z : _≡_ {A = ℕ} 0 1 = cc in omega arith)
+    go invalid w q = absurd (let z : _≡_ {A = ℕ} 0 1 = cc in omega arith)

@@ -10,12 +10,12 @@ use lib.Dec.{leb, eqb, eqb·suc-suc}
 use borrow.Author.Tests.{eq-eqb, ne-eqb}
 use Rattle.rules.specs.Terms.{Terms, nil, cons, _+++_, count, varsTerms}
 use Rattle.rules.specs.Syntax.{Symbol, Literal, pos, neg, arguments, varsLiterals}
-use Rattle.rules.specs.Cells.{Cell, variable, function, positive, negative, unknown, readCell, Taken, taken, takeOne, takeTerms, Row, row, putTerm, putLiteral, putCell, readRow, onlyLiterals, numbered, keepNumbered, readLiterals}
+use Rattle.rules.specs.Cells.{Cell, variable, function, positive, negative, invalid, readCell, Taken, taken, takeOne, takeTerms, Row, row, putTerm, putLiteral, putCell, readRow, onlyLiterals, numbered, keepNumbered, readLiterals}
 use Rattle.rules.specs.Decks.{headAndBody, readClause}
 use Rattle.rules.proofs.TermLaws.{count-join}
 use Rattle.rules.proofs.CellLaws.{vars-join}
 use Rattle.deck.specs.declared.kinds.Kind.{Kind}
-use Rattle.deck.specs.declared.kinds.Kind.the-variants.{Variable, Function, Positive, Negative, Unknown}
+use Rattle.deck.specs.declared.kinds.Kind.the-variants.{Variable, Function, Positive, Negative, Invalid}
 use Rattle.deck.specs.Answers.{found}
 use Rattle.deck.specs.Kinds.{kindOf}
 use Rattle.deck.specs.Scan.{scanCell, scan}
@@ -54,7 +54,7 @@ scan-none (Positive k) zero next go h = h k next
 scan-none (Positive k) (suc todo) next go h = refl
 scan-none (Negative k) zero next go h = h k next
 scan-none (Negative k) (suc todo) next go h = refl
-scan-none Unknown todo next go h = refl
+scan-none Invalid todo next go h = refl
 
 -- A functor in front of its terms.
 scan-term :
@@ -105,7 +105,7 @@ scan-put (positive p k) (some (row ts ls)) zero next go h = h k next ∙ scan-li
 scan-put (positive p k) (some (row ts ls)) (suc todo) next go h = no-literal (pos p) (λ us. refl) todo next ls (takeTerms k ts)
 scan-put (negative p k) (some (row ts ls)) zero next go h = h k next ∙ scan-literal (neg p) (λ us. refl) k next ts ls (takeTerms k ts) (split k ts)
 scan-put (negative p k) (some (row ts ls)) (suc todo) next go h = no-literal (neg p) (λ us. refl) todo next ls (takeTerms k ts)
-scan-put unknown (some (row ts ls)) todo next go h = refl
+scan-put invalid (some (row ts ls)) todo next go h = refl
 
 pub scan-row : (S : List Symbol) (cs : List ℕ) (todo next : ℕ) → scan S cs todo next ≡ scanRow (readRow S cs) todo next
 unfolding scan readRow numbered
@@ -175,7 +175,7 @@ head-put (variable v) (some (row ts ls)) = refl
 head-put (function f k) (some (row ts ls)) = term-head f ls (takeTerms k ts)
 head-put (positive p k) (some (row ts ls)) = pos-head p ls (takeTerms k ts)
 head-put (negative p k) (some (row ts ls)) = neg-head p ls (takeTerms k ts)
-head-put unknown (some (row ts ls)) = refl
+head-put invalid (some (row ts ls)) = refl
 
 -- No cells are no clause; others are one if they are literals and the first cell is a head's.
 pub empty-clause : (S : List Symbol) (cs : List ℕ) → length cs ≡ 0 → found (readClause S cs) ≡ false

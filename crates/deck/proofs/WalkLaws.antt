@@ -13,7 +13,7 @@ use borrow.Author.Tests.{le-leb, lt-leb}
 use Rattle.rules.specs.Syntax.{Symbol}
 use Rattle.rules.specs.Cells.{readCell}
 use Rattle.deck.specs.declared.kinds.Kind.{Kind}
-use Rattle.deck.specs.declared.kinds.Kind.the-variants.{Variable, Function, Positive, Negative, Unknown}
+use Rattle.deck.specs.declared.kinds.Kind.the-variants.{Variable, Function, Positive, Negative, Invalid}
 use Rattle.deck.specs.declared.terms.Walk.{Walk}
 use Rattle.deck.specs.declared.terms.Walk.the-variants.{At, Bad}
 use Rattle.deck.specs.Kinds.{kindOf}
@@ -41,7 +41,7 @@ no-term (Variable v) h todo next go = absurd (miss (2 ∷ 3 ∷ 4 ∷ []) 0 tt h
 no-term (Function k) h todo next go = absurd (miss (2 ∷ 3 ∷ 4 ∷ []) 1 tt h)
 no-term (Positive k) h todo next go = refl
 no-term (Negative k) h todo next go = refl
-no-term Unknown h todo next go = refl
+no-term Invalid h todo next go = refl
 
 no-literal : (k : Kind) → Others (0 ∷ 1 ∷ 4 ∷ []) k → (next : ℕ) (go : ℕ → ℕ → Bool) → scanCell k 0 next go ≡ false
 unfolding scanCell
@@ -49,7 +49,7 @@ no-literal (Variable v) h next go = refl
 no-literal (Function k) h next go = refl
 no-literal (Positive k) h next go = absurd (miss (0 ∷ 1 ∷ 4 ∷ []) 2 tt h)
 no-literal (Negative k) h next go = absurd (miss (0 ∷ 1 ∷ 4 ∷ []) 3 tt h)
-no-literal Unknown h next go = refl
+no-literal Invalid h next go = refl
 
 -- Terms.
 module _ (S : List Symbol) (cells : List ℕ) (at number next : ℕ) where

@@ -4,9 +4,9 @@ use mathlib.Core.Bool.{true, false}
 use mathlib.Core.List.{List, map}
 use lib.Dec.{ltb}
 use Rattle.rules.specs.Syntax.{Symbol, functor, predicate}
-use Rattle.rules.specs.Cells.{Cell, variable, function, positive, negative, unknown}
+use Rattle.rules.specs.Cells.{Cell, variable, function, positive, negative, invalid}
 use Rattle.deck.specs.declared.kinds.Kind.{Kind}
-use Rattle.deck.specs.declared.kinds.Kind.the-variants.{Variable, Function, Positive, Negative, Unknown}
+use Rattle.deck.specs.declared.kinds.Kind.the-variants.{Variable, Function, Positive, Negative, Invalid}
 
 -- The symbol of a word, and of words, whether or not they are symbol words; of those that are, it is the symbol read.
 unfoldable pub symbolOf : ℕ → Symbol
@@ -21,7 +21,7 @@ kindOf (variable v) = Variable v
 kindOf (function f k) = Function k
 kindOf (positive p k) = Positive k
 kindOf (negative p k) = Negative k
-kindOf unknown = Unknown
+kindOf invalid = Invalid
 
 -- The number of terms that follow a cell.
 abbrev pub arityOf : Kind → ℕ
@@ -29,4 +29,4 @@ arityOf (Variable v) = 0
 arityOf (Function k) = k
 arityOf (Positive k) = k
 arityOf (Negative k) = k
-arityOf Unknown = 0
+arityOf Invalid = 0

@@ -8,7 +8,7 @@ use lib.Dec.{leb}
 use Rattle.rules.specs.Syntax.{Symbol}
 use Rattle.rules.specs.Cells.{readCell}
 use Rattle.deck.specs.declared.kinds.Kind.{Kind}
-use Rattle.deck.specs.declared.kinds.Kind.the-variants.{Variable, Function, Positive, Negative, Unknown}
+use Rattle.deck.specs.declared.kinds.Kind.the-variants.{Variable, Function, Positive, Negative, Invalid}
 use Rattle.deck.specs.declared.terms.Walk.{Walk}
 use Rattle.deck.specs.declared.terms.Walk.the-variants.{At, Bad}
 use Rattle.deck.specs.Kinds.{kindOf}
@@ -23,7 +23,7 @@ scanCell (Positive k) zero next go = go k next
 scanCell (Positive k) (suc todo) next go = false
 scanCell (Negative k) zero next go = go k next
 scanCell (Negative k) (suc todo) next go = false
-scanCell Unknown todo next go = false
+scanCell Invalid todo next go = false
 
 unfoldable pub scan : List Symbol → List ℕ → ℕ → ℕ → Bool
 scan S [] zero next = true

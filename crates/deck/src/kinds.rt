@@ -11,7 +11,7 @@ pub enum Kind {
     Function(usize),
     Positive(usize),
     Negative(usize),
-    Unknown,
+    Invalid,
 }
 
 pub fn read(symbols: &[u16], cell: u16) -> Kind
@@ -23,7 +23,7 @@ pub fn read(symbols: &[u16], cell: u16) -> Kind
         if v <= 1023 {
             Kind::Variable(v)
         } else {
-            Kind::Unknown
+            Kind::Invalid
         }
     } else if 16384 <= c {
         negated(symbols, c - 16384)
@@ -36,7 +36,7 @@ fn symbol(symbols: &[u16], n: usize) -> Kind
     ensures { λ r. ⌜ r ≡ kindOf (symbolCell n (getElem? (symbolsOf (now (symbols .entry))) n)) ⌝ }
 {
     if symbols.len() <= n {
-        return Kind::Unknown;
+        return Kind::Invalid;
     }
     let symbol = word(symbols, n);
     if symbol < 256 {
@@ -51,7 +51,7 @@ fn negated(symbols: &[u16], n: usize) -> Kind
 {
     match symbol(symbols, n) {
         Kind::Positive(arity) => Kind::Negative(arity),
-        _ => Kind::Unknown,
+        _ => Kind::Invalid,
     }
 }
 

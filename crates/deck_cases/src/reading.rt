@@ -17,7 +17,7 @@ fn kind(cell: u16) {
         Kind::Function(k) => show::line(b"functor", k as u64),
         Kind::Positive(k) => show::line(b"predicate", k as u64),
         Kind::Negative(k) => show::line(b"negated", k as u64),
-        Kind::Unknown => show::line(b"no cell", cell as u64),
+        Kind::Invalid => show::line(b"no cell", cell as u64),
     }
 }
 

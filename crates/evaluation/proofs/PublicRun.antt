@@ -15,7 +15,7 @@ use Rattle.rules.specs.Demand.{Demand3}
 use Rattle.rules.proofs.Demand3.{demand-3, all-listed, nothing-left}
 use Rattle.report.specs.Reports.{reportOf}
 use Rattle.report.specs.declared.Report.{Report}
-use Rattle.evaluation.specs.Top.{slices}
+use Rattle.evaluation.specs.Results.{slices}
 use Rattle.evaluation.specs.declared.Ran.the-variants.{Done}
 use Rattle.evaluation.proofs.run.{signature, ended}
 use Rattle.evaluation.proofs.run.Reads.{Post}

@@ -23,7 +23,8 @@ use Rattle.deck.specs.Answers.{numberOf}
 use Rattle.report.specs.Reports.{stopOf as stopOf′}
 use Rattle.report.specs.declared.Report.{Report}
 use Rattle.resolvents.specs.Deriving.{Rows}
-use Rattle.evaluation.specs.Top.{Queries, Topped, refusalFor, resultOf, slices}
+use Rattle.top_level.specs.Top.{Queries, Topped}
+use Rattle.evaluation.specs.Results.{refusalFor, resultOf, slices}
 use Rattle.evaluation.specs.declared.Ran.the-variants as kind
 
 -- THE NUMBERS OF REFUSALS determine them.

@@ -1,4 +1,1 @@
-pub mod Store
-pub mod Derives
-pub mod Levels
-pub mod Top
+pub mod Results

@@ -5,24 +5,10 @@ ghost use lib.ListN.{length};
 ghost use Rattle.rules.specs.Refusals.{checkedNumber};
 ghost use Rattle.rules.specs.Run.{run};
 ghost use Rattle.deck.specs.Answers.{numberOf};
-ghost use Rattle.evaluation.specs.Top.{resultOf, slices};
-
-pub mod derive;
-pub mod goals;
-pub mod levels;
-pub mod top;
-
+ghost use Rattle.evaluation.specs.Results.{resultOf, slices};
 use deck::Checked;
 use deck::Refusal;
 use report::Report;
-
-// Why a goal is parked: floundered, undecided, oversized, deep.
-pub enum Mark {
-    Floundered,
-    Undecided,
-    Oversized,
-    Deep,
-}
 
 // What a run returns: a refusal, or its report.
 pub enum Ran {
@@ -87,8 +73,8 @@ fn accepted(
     let mut names = [65535u16; 1280];
     let mut order = [0u16; 1280];
     let mut child = [0u16; 1024];
-    let start = top::first(query, store);
-    top::top(
+    let start = top_level::first(query, store);
+    top_level::top(
         deck,
         start,
         budget,

@@ -11,7 +11,7 @@ use Rattle.deck.specs.Answers.{numberOf}
 use Rattle.deck.specs.declared.Checked.the-variants as checked
 use Rattle.deck.specs.declared.Refusal.{Refusal}
 use Rattle.evaluation.proofs.RunLaws.{number-for}
-use Rattle.evaluation.specs.Top.{refusalFor, resultOf}
+use Rattle.evaluation.specs.Results.{refusalFor, resultOf}
 use Rattle.evaluation.specs.declared.Ran.{Ran}
 use Rattle.evaluation.specs.declared.Ran.the-variants.{Refused, Done}
 use Rattle.leads_c.specs.Calls.{Numbers, numbers, Called}

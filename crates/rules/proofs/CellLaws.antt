@@ -13,7 +13,7 @@ use lib.Dec.{leb}
 use borrow.Author.Tests.{le-leb, lt-leb, leb-true}
 use Rattle.rules.specs.Terms.{Term, var, app, Terms, nil, cons, _+++_, count, size, sizes, varsTerm, varsTerms}
 use Rattle.rules.specs.Syntax.{Symbol, functor, predicate, Literal, pos, neg, arguments, varsLiterals}
-use Rattle.rules.specs.Cells.{writeTerm, writeTerms, writeLiterals, Cell, variable, function, positive, negative, unknown, symbolCell, negatedCell, variableCell, readCell, Taken, taken, takeOne, takeTerms, Row, row, putTerm, putLiteral, putCell, readRow, onlyLiterals, numbered, keepNumbered, readLiterals}
+use Rattle.rules.specs.Cells.{writeTerm, writeTerms, writeLiterals, Cell, variable, function, positive, negative, invalid, symbolCell, negatedCell, variableCell, readCell, Taken, taken, takeOne, takeTerms, Row, row, putTerm, putLiteral, putCell, readRow, onlyLiterals, numbered, keepNumbered, readLiterals}
 use Rattle.rules.specs.WellFormed.{All, WfTerm, WfTerms, WfLiterals, InOrder}
 use Rattle.rules.proofs.ListLaws.{all-weaken}
 use Rattle.rules.proofs.TermLaws.{join-nil}
@@ -251,7 +251,7 @@ Written (variable v) c = (c ≡ 32768 + v) × Small v
 Written (function f k) c = (c ≡ f) × (c < 16384)
 Written (positive p k) c = (c ≡ p) × (c < 16384)
 Written (negative p k) c = (c ≡ 16384 + p) × (c < 32768)
-Written unknown c = Unit {0}
+Written invalid c = Unit {0}
 
 symbol-written : (c : ℕ) (o : Option Symbol) → c < 16384 → Written (symbolCell c o) c
 unfolding symbolCell
@@ -375,7 +375,7 @@ put-sound S c cs (positive p k) (some (row ts ls)) e r =
     putLiteral-sound S c cs (pos p) k ts ls (takeTerms k ts) (λ us. positive-reads S c cs ls p k us e) (takes k ts) r
 put-sound S c cs (negative p k) (some (row ts ls)) e r =
     putLiteral-sound S c cs (neg p) k ts ls (takeTerms k ts) (λ us. negative-reads S c cs ls p k us e) (takes k ts) r
-put-sound S c cs unknown (some (row ts ls)) e r = tt
+put-sound S c cs invalid (some (row ts ls)) e r = tt
 
 row-sound : (S : List Symbol) (cs : List ℕ) → Sound S cs (readRow S cs)
 unfolding readRow

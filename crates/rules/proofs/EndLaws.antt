@@ -7,14 +7,14 @@ use Rattle.rules.specs.Terms.{Terms}
 use Rattle.rules.specs.Syntax.{Literal, neg, Clause, Deck, Goal}
 use Rattle.rules.specs.Goals.{Mark, undecided, Marked, marked, goalWords, wordsOf, markedWords}
 use Rattle.rules.specs.Resolution.{negative, select}
-use Rattle.rules.specs.Evaluation.{Stop, finished, budget, answers, store, Level, startLevel, withPending, withParked, withAnswer, Place, zeroth, deeper, held, Question, question, halt, step, success, ask, Ending, succeeded, stopped, Ended, ended, proved, refuted, unsettled, cut, Reply, reply, verdictOf, replyOf, decideBy, unasked, evaluateLevel, Outcome, stopOf, outcome, evaluate}
+use Rattle.rules.specs.Evaluation.{Stop, finished, budget, answers, store, Level, startLevel, withPending, withParked, withAnswer, Place, zeroth, deeper, held, Question, question, halt, step, success, ask, Ending, succeeded, stopped, Ended, ended, succeeds, fails, unsettled, interrupted, Reply, reply, verdictOf, replyOf, decideBy, unasked, evaluateLevel, Outcome, stopOf, outcome, evaluate}
 use Rattle.rules.specs.WellFormed.{All}
 use Rattle.rules.proofs.ListLaws.{all-snoc}
 use Rattle.rules.proofs.GoalLaws.{wordsOf-append, markedWords-append}
 use Rattle.rules.proofs.SelectLaws.{Selected, select-selected}
 use Rattle.rules.proofs.FormedLaws.{without-shorter}
 use Rattle.rules.proofs.NextLaws.{bare, asks, Ahead, emptied, unpaid, unlisted, unstored, lists, parks, replaces, inquires}
-use Rattle.rules.proofs.LevelLaws.{Unfinished, Runs, halts, steps, wins, proves, refutes, unsettles, cuts, runs-left, next-ahead, decides, runs}
+use Rattle.rules.proofs.LevelLaws.{Unfinished, Runs, halts, steps, wins, proves, disproves, unsettles, interrupts, runs-left, next-ahead, decides, runs}
 
 -- 1. What the stops say.
 
@@ -30,11 +30,11 @@ Says answers (deeper outer) l left = ⊥
 Says store at l left = Nonempty (l .pending)
 
 -- A deeper level's stop, said of the level that asked it.
-cut-says : (s : Stop) → Unfinished s → (outer left : ℕ) (inner l : Level) (at : Place) → Nonempty (l .pending) → Says s (deeper outer) inner left → Says s at l left
-cut-says finished u outer left inner l at p h = absurd u
-cut-says budget u outer left inner l at p h = (p, h .1)
-cut-says answers u outer left inner l at p h = absurd h
-cut-says store u outer left inner l at p h = p
+interrupted-says : (s : Stop) → Unfinished s → (outer left : ℕ) (inner l : Level) (at : Place) → Nonempty (l .pending) → Says s (deeper outer) inner left → Says s at l left
+interrupted-says finished u outer left inner l at p h = absurd u
+interrupted-says budget u outer left inner l at p h = (p, h .1)
+interrupted-says answers u outer left inner l at p h = absurd h
+interrupted-says store u outer left inner l at p h = p
 
 module _ {clauses : List Clause} {answerRoom storeSize : ℕ} where
   halt-says : {below left : ℕ} {at : Place} {l : Level} {s : Stop} → Ahead clauses answerRoom storeSize below at l left (halt s) → Says s at l left
@@ -51,10 +51,10 @@ module _ {clauses : List Clause} {answerRoom storeSize : ℕ} where
   runs-says (halts n) = halt-says (next-ahead n)
   runs-says (steps n r) = runs-says r
   runs-says (proves n a r) = runs-says r
-  runs-says (refutes n a f r) = runs-says r
+  runs-says (disproves n a f r) = runs-says r
   runs-says (unsettles n a f r) = runs-says r
-  runs-says (cuts {m = m} {at} {l} {inner} {q} {s} n a u) =
-      cut-says s u (q .heldOutside) m inner l at (ask-pending (next-ahead n)) (runs-says a)
+  runs-says (interrupts {m = m} {at} {l} {inner} {q} {s} n a u) =
+      interrupted-says s u (q .heldOutside) m inner l at (ask-pending (next-ahead n)) (runs-says a)
 
   zeroth-success : {below left : ℕ} {l : Level} → Ahead clauses answerRoom storeSize below zeroth l left success → ⊥
   zeroth-success a = elim a [ ]
@@ -64,7 +64,7 @@ module _ {clauses : List Clause} {answerRoom storeSize : ℕ} where
   zeroth-stops (steps n r) = zeroth-stops r
   zeroth-stops (wins n) = zeroth-success (next-ahead n)
   zeroth-stops (proves n a r) = zeroth-stops r
-  zeroth-stops (refutes n a f r) = zeroth-stops r
+  zeroth-stops (disproves n a f r) = zeroth-stops r
   zeroth-stops (unsettles n a f r) = zeroth-stops r
 
 -- A goal without literals.
@@ -76,7 +76,7 @@ Bare g = g .literals ≡ []
 pub record Keeps (clauses : List Clause) (answerRoom storeSize : ℕ) (at : Place) (P : Level → Type 0) : Type 0 where
   pub byStep : {below left : ℕ} {l l′ : Level} → Ahead clauses answerRoom storeSize below at l left (step l′) → P l → P l′
   pub byAsk : {below left : ℕ} {l : Level} {q : Question} → Ahead clauses answerRoom storeSize below at l left (ask q) → P l
-      → P (q .onProved) × P (q .onRefuted) × P (q .onUnsettled)
+      → P (q .onSuccess) × P (q .onFailure) × P (q .onUnsettled)
 
 module _ {clauses : List Clause} {answerRoom storeSize : ℕ} where
   pub runs-keep : {below left m : ℕ} {at : Place} {l l′ : Level} {i : Ending} (P : Level → Type 0) → Keeps clauses answerRoom storeSize at P
@@ -85,9 +85,9 @@ module _ {clauses : List Clause} {answerRoom storeSize : ℕ} where
   runs-keep P k (steps n r) p = runs-keep P k r (k .byStep (next-ahead n) p)
   runs-keep P k (wins n) p = p
   runs-keep P k (proves n a r) p = runs-keep P k r (k .byAsk (next-ahead n) p .0)
-  runs-keep P k (refutes n a f r) p = runs-keep P k r (k .byAsk (next-ahead n) p .1)
+  runs-keep P k (disproves n a f r) p = runs-keep P k r (k .byAsk (next-ahead n) p .1)
   runs-keep P k (unsettles n a f r) p = runs-keep P k r (k .byAsk (next-ahead n) p .2)
-  runs-keep P k (cuts n a u) p = p
+  runs-keep P k (interrupts n a u) p = p
 
   -- Answers have no literals, and their words fit the answer list.
   bare-step : {below left : ℕ} {at : Place} {l l′ : Level} → Ahead clauses answerRoom storeSize below at l left (step l′)
@@ -99,7 +99,7 @@ module _ {clauses : List Clause} {answerRoom storeSize : ℕ} where
 
   answers-ask : (P : List Goal → Type 0) {below left : ℕ} {at : Place} {l : Level} {q : Question}
       → Ahead clauses answerRoom storeSize below at l left (ask q) → P (l .answers)
-      → P (q .onProved .answers) × P (q .onRefuted .answers) × P (q .onUnsettled .answers)
+      → P (q .onSuccess .answers) × P (q .onFailure .answers) × P (q .onUnsettled .answers)
   unfolding question withParked withPending
   answers-ask P (inquires p a h) b = (b, b, b)
 
@@ -152,7 +152,7 @@ module _ {clauses : List Clause} {answerRoom storeSize : ℕ} where
   store-step (replaces p a h) w = h
 
   store-ask : {below left : ℕ} {at : Place} {l : Level} {q : Question} → Ahead clauses answerRoom storeSize below at l left (ask q) → held at l ≤ storeSize
-      → (held at (q .onProved) ≤ storeSize) × (held at (q .onRefuted) ≤ storeSize) × (held at (q .onUnsettled) ≤ storeSize)
+      → (held at (q .onSuccess) ≤ storeSize) × (held at (q .onFailure) ≤ storeSize) × (held at (q .onUnsettled) ≤ storeSize)
   unfolding question
   store-ask (inquires {at} {l} {g = g} {gs} p (asks {before} {after} {p = r} {ts = ts} e b) h) w = (
     omega (arith, held-first at l g gs gs p (omega arith)),
@@ -176,13 +176,13 @@ module _ {clauses : List Clause} {answerRoom storeSize : ℕ} where
 -- 3. What a decider replies: no more steps left than it had, and a stop that no level below level 0 can say is not said.
 
 abbrev pub Replies : ℕ → Reply → Type 0
-Replies left (reply proved m) = m ≤ left
-Replies left (reply refuted m) = m ≤ left
+Replies left (reply succeeds m) = m ≤ left
+Replies left (reply fails m) = m ≤ left
 Replies left (reply unsettled m) = m ≤ left
-Replies left (reply (cut finished) m) = ⊥
-Replies left (reply (cut budget) m) = m ≡ 0
-Replies left (reply (cut answers) m) = ⊥
-Replies left (reply (cut store) m) = m ≤ left
+Replies left (reply (interrupted finished) m) = ⊥
+Replies left (reply (interrupted budget) m) = m ≡ 0
+Replies left (reply (interrupted answers) m) = ⊥
+Replies left (reply (interrupted store) m) = m ≤ left
 
 module _ (clauses : List Clause) (answerRoom storeSize : ℕ) where
   finished-replies : (left m : ℕ) → m ≤ left → (ks : List Marked) → Replies left (reply (verdictOf (stopped finished) ks) m)

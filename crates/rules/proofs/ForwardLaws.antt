@@ -7,7 +7,7 @@ use native.Mathlib.Omega.{arith}
 use lib.ListN.{length}
 use Rattle.rules.specs.Terms.{Term, var, app, Terms, nil, cons, count, varsTerms}
 use Rattle.rules.specs.Syntax.{Symbol, Literal, pos, neg, varsLiterals}
-use Rattle.rules.specs.Cells.{writeTerms, writeLiterals, Cell, variable, function, positive, negative, unknown, readCell, Row, row, readRow, onlyLiterals}
+use Rattle.rules.specs.Cells.{writeTerms, writeLiterals, Cell, variable, function, positive, negative, invalid, readCell, Row, row, readRow, onlyLiterals}
 use Rattle.rules.specs.WellFormed.{All, WfTerms, WfLiterals}
 use Rattle.rules.proofs.CellLaws.{Small, terms-length, after-terms, other-terms, readCell-var, read-literals, written-as, Reads, positive-reads, negative-reads, row-reads}
 
@@ -29,7 +29,7 @@ onCell given more cs (variable v) = withTerm (var v) (more cs)
 onCell given more cs (function f k) = withArguments f more (given k)
 onCell given more cs (positive p k) = none
 onCell given more cs (negative p k) = none
-onCell given more cs unknown = none
+onCell given more cs invalid = none
 
 -- k terms from the front of the cells; the first number is greater than the number of cells.
 unfoldable pub forward : ℕ → List Symbol → ℕ → List ℕ → Option Got
@@ -111,7 +111,7 @@ module _ (S : List Symbol) (c : ℕ) (cs : List ℕ) where
   onCell-sound k given more (function f m) e a b = withArguments-sound k m f more (given m) e b (a m)
   onCell-sound k given more (positive p m) e a b = tt
   onCell-sound k given more (negative p m) e a b = tt
-  onCell-sound k given more unknown e a b = tt
+  onCell-sound k given more invalid e a b = tt
 
 forward-sound : (n : ℕ) (S : List Symbol) (k : ℕ) (cs : List ℕ) → ForwardSound S k cs (forward n S k cs)
 unfolding forward
@@ -138,7 +138,7 @@ onFirst given more (variable v) = none
 onFirst given more (function f k) = none
 onFirst given more (positive p k) = onHead (pos p) more (given k)
 onFirst given more (negative p k) = onHead (neg p) more (given k)
-onFirst given more unknown = none
+onFirst given more invalid = none
 
 -- Literal by literal to the end; the number is greater than the number of cells.
 unfoldable pub forwardLiterals : ℕ → List Symbol → List ℕ → Option (List Literal)
@@ -205,7 +205,7 @@ onFirst-sound S c cs given more (variable v) e a b = tt
 onFirst-sound S c cs given more (function f k) e a b = tt
 onFirst-sound S c cs given more (positive p k) e a b = onHead-sound S c cs (pos p) k more (given k) (λ ts ls. positive-reads S c cs ls p k ts e) b (a k)
 onFirst-sound S c cs given more (negative p k) e a b = onHead-sound S c cs (neg p) k more (given k) (λ ts ls. negative-reads S c cs ls p k ts e) b (a k)
-onFirst-sound S c cs given more unknown e a b = tt
+onFirst-sound S c cs given more invalid e a b = tt
 
 literals-sound : (n : ℕ) (S : List Symbol) (cs : List ℕ) → LiteralsSound S cs (forwardLiterals n S cs)
 unfolding forwardLiterals

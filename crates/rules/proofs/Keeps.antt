@@ -13,7 +13,7 @@ use Rattle.rules.specs.Evaluation.{Level, startLevel, withPending, withP
 use Rattle.rules.proofs.ListLaws.{all-append, all-snoc, all-of}
 use Rattle.rules.proofs.SelectLaws.{Selected, select-selected}
 use Rattle.rules.proofs.NextLaws.{Acts, bare, flounders, overflows, resolves, bottoms, asks, Ahead, emptied, unpaid, unlisted, unstored, lists, parks, replaces, succeeds, inquires, ahead}
-use Rattle.rules.proofs.LevelLaws.{Runs, halts, steps, wins, proves, refutes, unsettles, cuts, next-ahead, runs}
+use Rattle.rules.proofs.LevelLaws.{Runs, halts, steps, wins, proves, disproves, unsettles, interrupts, next-ahead, runs}
 
 pub record Invariant : Type 1 where
   pub pending : Goal → Type 0
@@ -83,7 +83,7 @@ module _ (J : Invariant) where
   NextHas (halt s) = Unit {0}
   NextHas (step l) = LevelHas l
   NextHas success = Unit {0}
-  NextHas (ask q) = J .pending (q .goal) × LevelHas (q .onProved) × LevelHas (q .onRefuted) × LevelHas (q .onUnsettled)
+  NextHas (ask q) = J .pending (q .goal) × LevelHas (q .onSuccess) × LevelHas (q .onFailure) × LevelHas (q .onUnsettled)
 
   abbrev pub EndedHas : Ended → Type 0
   EndedHas (ended e l left) = LevelHas l
@@ -140,9 +140,9 @@ module _ (J : Invariant) where
     runs-has (steps n r) h = runs-has r (ahead-has (next-ahead n) h)
     runs-has (wins n) h = h
     runs-has (proves n a r) h = runs-has r (ahead-has (next-ahead n) h .1)
-    runs-has (refutes n a f r) h = runs-has r (ahead-has (next-ahead n) h .2)
+    runs-has (disproves n a f r) h = runs-has r (ahead-has (next-ahead n) h .2)
     runs-has (unsettles n a f r) h = runs-has r (ahead-has (next-ahead n) h .3)
-    runs-has (cuts n a f) h = h
+    runs-has (interrupts n a f) h = h
 
     pub level-has : (below : ℕ) (at : Place) (l : Level) (left : ℕ) → LevelHas l → EndedHas (evaluateLevel clauses answerRoom storeSize below at l left)
     level-has below at l left = runs-has (runs clauses answerRoom storeSize below at l left)

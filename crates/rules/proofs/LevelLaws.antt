@@ -6,7 +6,7 @@ use mathlib.Core.List.{List, [], _∷_}
 use native.Mathlib.Omega.{arith}
 use Rattle.rules.specs.Syntax.{Clause, Goal}
 use Rattle.rules.specs.Goals.{Marked}
-use Rattle.rules.specs.Evaluation.{Stop, finished, budget, answers, store, Level, startLevel, Place, deeper, Question, Next, halt, step, success, ask, Ending, succeeded, stopped, Ended, ended, cut, Reply, reply, verdictOf, replyOf, close, proceed, decideBy, unasked, nextFrom, nextOf, turn, evaluateLevel}
+use Rattle.rules.specs.Evaluation.{Stop, finished, budget, answers, store, Level, startLevel, Place, deeper, Question, Next, halt, step, success, ask, Ending, succeeded, stopped, Ended, ended, interrupted, Reply, reply, verdictOf, replyOf, close, proceed, decideBy, unasked, nextFrom, nextOf, turn, evaluateLevel}
 use Rattle.rules.proofs.NextLaws.{asks, Ahead, lists, parks, replaces, inquires, ahead}
 
 -- The stops that stop the levels above too.
@@ -29,12 +29,12 @@ pub data Runs (clauses : List Clause) (answerRoom storeSize : ℕ) : ℕ → Pla
   -- A new level has decided an atom, and this one goes on.
   proves : {below left m : ℕ} {at : Place} {l inner : Level} {q : Question} {e : Ended} → nextOf clauses answerRoom storeSize (suc below) at l left ≡ ask q
       → Runs clauses answerRoom storeSize below (deeper (q .heldOutside)) (startLevel (q .goal)) (left - 1) (ended succeeded inner m)
-      → Runs clauses answerRoom storeSize (suc below) at (q .onProved) m e
+      → Runs clauses answerRoom storeSize (suc below) at (q .onSuccess) m e
       → Runs clauses answerRoom storeSize (suc below) at l left e
-  refutes : {below left m : ℕ} {at : Place} {l inner : Level} {q : Question} {e : Ended} → nextOf clauses answerRoom storeSize (suc below) at l left ≡ ask q
+  disproves : {below left m : ℕ} {at : Place} {l inner : Level} {q : Question} {e : Ended} → nextOf clauses answerRoom storeSize (suc below) at l left ≡ ask q
       → Runs clauses answerRoom storeSize below (deeper (q .heldOutside)) (startLevel (q .goal)) (left - 1) (ended (stopped finished) inner m)
       → inner .parked ≡ []
-      → Runs clauses answerRoom storeSize (suc below) at (q .onRefuted) m e
+      → Runs clauses answerRoom storeSize (suc below) at (q .onFailure) m e
       → Runs clauses answerRoom storeSize (suc below) at l left e
   unsettles : {below left m : ℕ} {at : Place} {l inner : Level} {q : Question} {k : Marked} {ks : List Marked} {e : Ended}
       → nextOf clauses answerRoom storeSize (suc below) at l left ≡ ask q
@@ -43,7 +43,7 @@ pub data Runs (clauses : List Clause) (answerRoom storeSize : ℕ) : ℕ → Pla
       → Runs clauses answerRoom storeSize (suc below) at (q .onUnsettled) m e
       → Runs clauses answerRoom storeSize (suc below) at l left e
   -- A new level has stopped the run.
-  cuts : {below left m : ℕ} {at : Place} {l inner : Level} {q : Question} {s : Stop} → nextOf clauses answerRoom storeSize (suc below) at l left ≡ ask q
+  interrupts : {below left m : ℕ} {at : Place} {l inner : Level} {q : Question} {s : Stop} → nextOf clauses answerRoom storeSize (suc below) at l left ≡ ask q
       → Runs clauses answerRoom storeSize below (deeper (q .heldOutside)) (startLevel (q .goal)) (left - 1) (ended (stopped s) inner m)
       → Unfinished s
       → Runs clauses answerRoom storeSize (suc below) at l left (ended (stopped s) l m)
@@ -54,9 +54,9 @@ module _ {clauses : List Clause} {answerRoom storeSize : ℕ} where
   runs-left (steps n r) = omega (arith, runs-left r)
   runs-left (wins n) = omega arith
   runs-left (proves n a r) = omega (arith, runs-left a, runs-left r)
-  runs-left (refutes n a f r) = omega (arith, runs-left a, runs-left r)
+  runs-left (disproves n a f r) = omega (arith, runs-left a, runs-left r)
   runs-left (unsettles n a f r) = omega (arith, runs-left a, runs-left r)
-  runs-left (cuts n a f) = omega (arith, runs-left a)
+  runs-left (interrupts n a f) = omega (arith, runs-left a)
 
   -- What is known of what is next.
   pub next-ahead : {below left : ℕ} {at : Place} {l : Level} {n : Next} → nextOf clauses answerRoom storeSize below at l left ≡ n
@@ -81,12 +81,12 @@ module _ {clauses : List Clause} {answerRoom storeSize : ℕ} where
   asked-less n a = omega (arith, runs-left a, ask-pays n)
 
 -- A stop other than "finished" stops the run.
-cut-verdict : (s : Stop) (ks : List Marked) → Unfinished s → verdictOf (stopped s) ks ≡ cut s
+interrupted-verdict : (s : Stop) (ks : List Marked) → Unfinished s → verdictOf (stopped s) ks ≡ interrupted s
 unfolding verdictOf
-cut-verdict finished ks h = absurd h
-cut-verdict budget ks h = refl
-cut-verdict answers ks h = refl
-cut-verdict store ks h = refl
+interrupted-verdict finished ks h = absurd h
+interrupted-verdict budget ks h = refl
+interrupted-verdict answers ks h = refl
+interrupted-verdict store ks h = refl
 
 -- The decider of a level with `below` levels below it.
 abbrev pub decides : List Clause → ℕ → ℕ → ℕ → Question → ℕ → Reply
@@ -119,18 +119,18 @@ module _ (clauses : List Clause) (answerRoom storeSize : ℕ) where
         → (ks : List Marked) → inner .parked ≡ ks
         → Runs clauses answerRoom storeSize (suc n) at l left (close again l q (reply (verdictOf (stopped finished) ks) m))
     unfolding close verdictOf
-    finished-runs n m inner q h e r [] k = refutes e r k (h (q .onRefuted) m (asked-less (next-ahead e) r))
+    finished-runs n m inner q h e r [] k = disproves e r k (h (q .onFailure) m (asked-less (next-ahead e) r))
     finished-runs n m inner q h e r (x ∷ ks) k = unsettles e r k (h (q .onUnsettled) m (asked-less (next-ahead e) r))
 
     close-runs : (n : ℕ) (q : Question) → AgainRuns (suc n) → nextOf clauses answerRoom storeSize (suc n) at l left ≡ ask q → (i : Ended)
         → Runs clauses answerRoom storeSize n (deeper (q .heldOutside)) (startLevel (q .goal)) (left - 1) i
         → Runs clauses answerRoom storeSize (suc n) at l left (close again l q (replyOf i))
     unfolding close replyOf verdictOf
-    close-runs n q h e (ended succeeded inner m) r = proves e r (h (q .onProved) m (asked-less (next-ahead e) r))
+    close-runs n q h e (ended succeeded inner m) r = proves e r (h (q .onSuccess) m (asked-less (next-ahead e) r))
     close-runs n q h e (ended (stopped finished) inner m) r = finished-runs n m inner q h e r (inner .parked) refl
-    close-runs n q h e (ended (stopped budget) inner m) r = cuts e r tt
-    close-runs n q h e (ended (stopped answers) inner m) r = cuts e r tt
-    close-runs n q h e (ended (stopped store) inner m) r = cuts e r tt
+    close-runs n q h e (ended (stopped budget) inner m) r = interrupts e r tt
+    close-runs n q h e (ended (stopped answers) inner m) r = interrupts e r tt
+    close-runs n q h e (ended (stopped store) inner m) r = interrupts e r tt
 
     proceed-runs : (below : ℕ) → BelowRun below → AgainRuns below → (n : Next) → nextOf clauses answerRoom storeSize below at l left ≡ n
         → Runs clauses answerRoom storeSize below at l left (proceed again (decides clauses answerRoom storeSize below) l left n)
@@ -141,13 +141,13 @@ module _ (clauses : List Clause) (answerRoom storeSize : ℕ) where
     proceed-runs zero b h (ask q) e = absurd (ask-below (next-ahead e))
     proceed-runs (suc below) b h (ask q) e = close-runs below q h e _ (b (deeper (q .heldOutside)) (startLevel (q .goal)) (left - 1))
 
-  turn-runs : (below : ℕ) → BelowRun below → (at : Place) (turns : ℕ) (l : Level) (left : ℕ) → left < turns
-      → Runs clauses answerRoom storeSize below at l left (turn clauses answerRoom storeSize (decides clauses answerRoom storeSize below) below at turns l left)
+  turn-runs : (below : ℕ) → BelowRun below → (at : Place) (fuel : ℕ) (l : Level) (left : ℕ) → left < fuel
+      → Runs clauses answerRoom storeSize below at l left (turn clauses answerRoom storeSize (decides clauses answerRoom storeSize below) below at fuel l left)
   unfolding turn
   turn-runs below b at zero l left h = absurd (omega arith)
-  turn-runs below b at (suc turns) l left h =
-      proceed-runs at (turn clauses answerRoom storeSize (decides clauses answerRoom storeSize below) below at turns) l left below b
-      (λ l′ m k. turn-runs below b at turns l′ m (omega arith)) (nextOf clauses answerRoom storeSize below at l left) refl
+  turn-runs below b at (suc fuel) l left h =
+      proceed-runs at (turn clauses answerRoom storeSize (decides clauses answerRoom storeSize below) below at fuel) l left below b
+      (λ l′ m k. turn-runs below b at fuel l′ m (omega arith)) (nextOf clauses answerRoom storeSize below at l left) refl
 
   -- EVERY LEVEL RUNS.
   pub runs : (below : ℕ) (at : Place) (l : Level) (left : ℕ)
@@ -169,33 +169,33 @@ module _ (clauses : List Clause) (answerRoom storeSize : ℕ) where
   below-run (suc below) = runs below
 
   -- The bound on turns does not show, as long as it is above the steps left.
-  turned : (below left : ℕ) (at : Place) (l : Level) {e : Ended} (turns : ℕ) → left < turns
+  turned : (below left : ℕ) (at : Place) (l : Level) {e : Ended} (fuel : ℕ) → left < fuel
       → ((k : ℕ) → left ≤ k → proceed (turn clauses answerRoom storeSize (decides clauses answerRoom storeSize below) below at k)
       (decides clauses answerRoom storeSize below) l left (nextOf clauses answerRoom storeSize below at l left) ≡ e)
-      → turn clauses answerRoom storeSize (decides clauses answerRoom storeSize below) below at turns l left ≡ e
+      → turn clauses answerRoom storeSize (decides clauses answerRoom storeSize below) below at fuel l left ≡ e
   unfolding turn
   turned below left at l zero h f = absurd (omega arith)
   turned below left at l (suc k) h f = f k (omega arith)
 
   runs-turn : {below left : ℕ} {at : Place} {l : Level} {e : Ended} → Runs clauses answerRoom storeSize below at l left e
-      → (turns : ℕ) → left < turns → turn clauses answerRoom storeSize (decides clauses answerRoom storeSize below) below at turns l left ≡ e
+      → (fuel : ℕ) → left < fuel → turn clauses answerRoom storeSize (decides clauses answerRoom storeSize below) below at fuel l left ≡ e
   unfolding proceed close decideBy replyOf verdictOf
-  runs-turn (halts {below} {left} {at} {l} n) turns h = turned below left at l turns h (λ k b. rw n)
-  runs-turn (steps {below} {left} {at} {l} n r) turns h =
-      turned below left at l turns h (λ k b. rw n (runs-turn r k (omega (arith, step-pays (next-ahead n)))))
-  runs-turn (wins {below} {left} {at} {l} n) turns h = turned below left at l turns h (λ k b. rw n)
-  runs-turn (proves {below} {left} {at = at} {l} n a r) turns h =
-      turned (suc below) left at l turns h
+  runs-turn (halts {below} {left} {at} {l} n) fuel h = turned below left at l fuel h (λ k b. rw n)
+  runs-turn (steps {below} {left} {at} {l} n r) fuel h =
+      turned below left at l fuel h (λ k b. rw n (runs-turn r k (omega (arith, step-pays (next-ahead n)))))
+  runs-turn (wins {below} {left} {at} {l} n) fuel h = turned below left at l fuel h (λ k b. rw n)
+  runs-turn (proves {below} {left} {at = at} {l} n a r) fuel h =
+      turned (suc below) left at l fuel h
       (λ k b. rw (n, level-turn, runs-turn a (suc (left - 1)) (omega arith)) (runs-turn r k (omega (arith, asked-less (next-ahead n) a))))
-  runs-turn (refutes {below} {left} {at = at} {l} n a f r) turns h =
-      turned (suc below) left at l turns h
+  runs-turn (disproves {below} {left} {at = at} {l} n a f r) fuel h =
+      turned (suc below) left at l fuel h
       (λ k b. rw (n, level-turn, runs-turn a (suc (left - 1)) (omega arith), f) (runs-turn r k (omega (arith, asked-less (next-ahead n) a))))
-  runs-turn (unsettles {below} {left} {at = at} {l} n a f r) turns h =
-      turned (suc below) left at l turns h
+  runs-turn (unsettles {below} {left} {at = at} {l} n a f r) fuel h =
+      turned (suc below) left at l fuel h
       (λ k b. rw (n, level-turn, runs-turn a (suc (left - 1)) (omega arith), f) (runs-turn r k (omega (arith, asked-less (next-ahead n) a))))
-  runs-turn (cuts {below} {left} {at = at} {l} {inner} {s = s} n a f) turns h =
-      turned (suc below) left at l turns h
-      (λ k b. rw (n, level-turn, runs-turn a (suc (left - 1)) (omega arith), cut-verdict s (inner .parked) f))
+  runs-turn (interrupts {below} {left} {at = at} {l} {inner} {s = s} n a f) fuel h =
+      turned (suc below) left at l fuel h
+      (λ k b. rw (n, level-turn, runs-turn a (suc (left - 1)) (omega arith), interrupted-verdict s (inner .parked) f))
 
   -- A level that runs to an end is evaluated to it.
   pub runs-level : {below left : ℕ} {at : Place} {l : Level} {e : Ended} → Runs clauses answerRoom storeSize below at l left e

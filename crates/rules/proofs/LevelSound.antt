@@ -11,7 +11,7 @@ use Rattle.rules.specs.Terms.{Terms, nil}
 use Rattle.rules.specs.Syntax.{Literal, pos, neg, Clause, Goal}
 use Rattle.rules.specs.Goals.{Mark, undecided, Marked, marked, goalWords, wordsOf}
 use Rattle.rules.specs.Resolution.{Selection, nothing, positive, negative, select, resolvents, anyOversized}
-use Rattle.rules.specs.Evaluation.{finished, budget, answers, store, Level, startLevel, withPending, withParked, withAnswer, Place, zeroth, deeper, held, Act, noLiterals, park, derive, decide, deriveAct, decideAct, selectedAct, literalsAct, actOf, Question, question, Next, halt, step, success, ask, answerStep, actStep, unlessOver, checkStore, succeeded, stopped, Ended, ended, Verdict, proved, refuted, unsettled, cut, Reply, reply, verdictOf, replyOf, close, proceed, decideBy, unasked, nextFrom, nextOf, turn, evaluateLevel}
+use Rattle.rules.specs.Evaluation.{finished, budget, answers, store, Level, startLevel, withPending, withParked, withAnswer, Place, zeroth, deeper, held, Act, noLiterals, park, derive, decide, deriveAct, decideAct, selectedAct, literalsAct, actOf, Question, question, Next, halt, step, success, ask, answerStep, actStep, unlessOver, checkStore, succeeded, stopped, Ended, ended, Verdict, succeeds, fails, unsettled, interrupted, Reply, reply, verdictOf, replyOf, close, proceed, decideBy, unasked, nextFrom, nextOf, turn, evaluateLevel}
 use Rattle.rules.specs.Meaning.{Inds, node, inil, Filling, evals, Atoms, Holds, Some, SatisfiesBy, CoversBy}
 use Rattle.rules.proofs.Existence.{Existence, Into, into-same, into-then, some-left, some-right, some-split}
 use Rattle.rules.proofs.SelectLaws.{Selected, select-selected}
@@ -162,8 +162,8 @@ module _ (X : Existence) (I : Atoms) where
 
   -- The outer level when the question's goal is possible, when it is not, and when this is not known.
   pub record QuestionSound (at : Place) (l : Level) (q : Question) : Type 0 where
-    pub onProved : Possible I (q .goal) → Same at l (q .onProved)
-    pub onRefuted : ¬ Possible I (q .goal) → Same at l (q .onRefuted)
+    pub onSuccess : Possible I (q .goal) → Same at l (q .onSuccess)
+    pub onFailure : ¬ Possible I (q .goal) → Same at l (q .onFailure)
     pub onUnsettled : Same at l (q .onUnsettled)
 
   abbrev NextSound : Place → Level → Next → Type 0
@@ -192,11 +192,11 @@ module _ (X : Existence) (I : Atoms) where
     question-sound : (at : Place) (p : ℕ) (ts : Terms) (others : List Literal) → ActSound X I g (decide p ts others) → QuestionSound at here (question at here g gs p ts others)
     unfolding question withPending withParked
     question-sound at p ts others s = record {
-      onProved = λ k. (
+      onSuccess = λ k. (
         replaced g gs ms hs [] (λ choice. (λ c. absurd (s .0 (k .1 .0) (k .1 .2 .0) (choice, c)), λ b. absurd b)),
         same-answers at here _ refl,
       );
-      onRefuted = λ n. (
+      onFailure = λ n. (
         replaced g gs ms hs (goalOf (g .answers) others ∷ []) (λ choice.
             let i = s .1 (λ ν a. n (evals ν nil, (ν, refl, (a, tt)))) choice in
             (λ c. X .unit (inl (i .0 c)), λ c. elim c [ inl k ↦ i .1 k | inr b ↦ absurd b ])),
@@ -252,10 +252,10 @@ module _ (X : Existence) (I : Atoms) where
 
   -- What a new level tells of its goal.
   abbrev pub VerdictSound : Goal → Verdict → Type 0
-  VerdictSound g proved = Possible I g
-  VerdictSound g refuted = ¬ Possible I g
+  VerdictSound g succeeds = Possible I g
+  VerdictSound g fails = ¬ Possible I g
   VerdictSound g unsettled = Unit {0}
-  VerdictSound g (cut s) = s ≢ finished
+  VerdictSound g (interrupted s) = s ≢ finished
 
   abbrev ReplySound : Goal → Reply → Type 0
   ReplySound g (reply v left) = VerdictSound g v
@@ -273,10 +273,10 @@ module _ (X : Existence) (I : Atoms) where
   module _ (again : Level → ℕ → Ended) (at : Place) (ok : (l : Level) (left : ℕ) → EndedSound at l (again l left)) where
     close-sound : (l : Level) (q : Question) (r : Reply) → QuestionSound at l q → ReplySound (q .goal) r → EndedSound at l (close again l q r)
     unfolding close
-    close-sound l q (reply proved left) s d = after at l (q .onProved) (s .onProved d) (again (q .onProved) left) (ok (q .onProved) left)
-    close-sound l q (reply refuted left) s d = after at l (q .onRefuted) (s .onRefuted d) (again (q .onRefuted) left) (ok (q .onRefuted) left)
+    close-sound l q (reply succeeds left) s d = after at l (q .onSuccess) (s .onSuccess d) (again (q .onSuccess) left) (ok (q .onSuccess) left)
+    close-sound l q (reply fails left) s d = after at l (q .onFailure) (s .onFailure d) (again (q .onFailure) left) (ok (q .onFailure) left)
     close-sound l q (reply unsettled left) s d = after at l (q .onUnsettled) (s .onUnsettled) (again (q .onUnsettled) left) (ok (q .onUnsettled) left)
-    close-sound l q (reply (cut w) left) s d = (same-level at l, λ k. absurd (d k))
+    close-sound l q (reply (interrupted w) left) s d = (same-level at l, λ k. absurd (d k))
 
     proceed-sound :
         (decides : Question → ℕ → Reply) → ((q : Question) (left : ℕ) → ReplySound (q .goal) (decides q left)) → (l : Level) (left : ℕ) (next : Next) → NextSound at l next
@@ -320,11 +320,11 @@ module _ (X : Existence) (I : Atoms) where
 module _ (X : Existence) (I : Atoms) (clauses : List Clause) (sat : SatisfiesBy (X .M) I clauses) (answerRoom storeSize : ℕ) where
   pub turn-sound :
       (decides : Question → ℕ → Reply) → ((q : Question) (left : ℕ) → ReplySound X I (q .goal) (decides q left))
-      → (below : ℕ) (at : Place) (turns : ℕ) (l : Level) (left : ℕ) → EndedSound X I at l (turn clauses answerRoom storeSize decides below at turns l left)
+      → (below : ℕ) (at : Place) (fuel : ℕ) (l : Level) (left : ℕ) → EndedSound X I at l (turn clauses answerRoom storeSize decides below at fuel l left)
   unfolding turn
   turn-sound decides d below at zero l left = (same-level X I at l, λ k. absurd (budget-not X I k))
-  turn-sound decides d below at (suc turns) l left =
-      proceed-sound X I (turn clauses answerRoom storeSize decides below at turns) at (turn-sound decides d below at turns) decides d l left (nextOf clauses answerRoom storeSize below at l left)
+  turn-sound decides d below at (suc fuel) l left =
+      proceed-sound X I (turn clauses answerRoom storeSize decides below at fuel) at (turn-sound decides d below at fuel) decides d l left (nextOf clauses answerRoom storeSize below at l left)
       (next-sound X I clauses sat answerRoom storeSize below at (l .pending) (l .parked) (l .answers) left)
 
   decides-sound :
@@ -351,8 +351,8 @@ module _ (X : Existence) (I : Atoms) (clauses : List Clause) (sat : SatisfiesBy 
     atom-sound : ReplySound X I atom replied
     atom-sound = reply-sound X I outer atom _ (level-sound below (deeper outer) (startLevel atom) left)
 
-    pub level-proves : replied ≡ reply proved m → (ν : Filling) × I p (evals ν ts)
+    pub level-proves : replied ≡ reply succeeds m → (ν : Filling) × I p (evals ν ts)
     level-proves e = let h : Possible I atom = subst (ReplySound X I atom) e atom-sound in (h .1 .0, h .1 .2 .0)
 
-    pub level-refutes : replied ≡ reply refuted m → (ν : Filling) → ¬ I p (evals ν ts)
-    level-refutes e ν a = let h : ¬ Possible I atom = subst (ReplySound X I atom) e atom-sound in h (inil, (ν, refl, (a, tt)))
+    pub level-disproves : replied ≡ reply fails m → (ν : Filling) → ¬ I p (evals ν ts)
+    level-disproves e ν a = let h : ¬ Possible I atom = subst (ReplySound X I atom) e atom-sound in h (inil, (ν, refl, (a, tt)))

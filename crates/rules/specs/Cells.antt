@@ -32,21 +32,21 @@ writeLiterals (l ∷ ls) = writeLiteral l (writeLiterals ls)
 pub data Cell : Type 0 where
   variable : ℕ → Cell
   function positive negative : ℕ → ℕ → Cell
-  unknown : Cell
+  invalid : Cell
 
 unfoldable pub symbolCell : ℕ → Option Symbol → Cell
-symbolCell n none = unknown
+symbolCell n none = invalid
 symbolCell n (some (functor k)) = function n k
 symbolCell n (some (predicate k)) = positive n k
 
 unfoldable pub negatedCell : ℕ → Option Symbol → Cell
-negatedCell n none = unknown
-negatedCell n (some (functor k)) = unknown
+negatedCell n none = invalid
+negatedCell n (some (functor k)) = invalid
 negatedCell n (some (predicate k)) = negative n k
 
 -- A variable's number is 0 to 1,023.
 unfoldable pub variableCell : ℕ → Cell
-variableCell v = elim (leb v 1023) [ true ↦ variable v | false ↦ unknown ]
+variableCell v = elim (leb v 1023) [ true ↦ variable v | false ↦ invalid ]
 
 unfoldable pub readCell : List Symbol → ℕ → Cell
 readCell symbols c =
@@ -92,7 +92,7 @@ putCell (variable v) (some (row ts ls)) = some (row (cons (var v) ts) ls)
 putCell (function f k) (some (row ts ls)) = putTerm f ls (takeTerms k ts)
 putCell (positive p k) (some (row ts ls)) = putLiteral (pos p) ls (takeTerms k ts)
 putCell (negative p k) (some (row ts ls)) = putLiteral (neg p) ls (takeTerms k ts)
-putCell unknown (some (row ts ls)) = none
+putCell invalid (some (row ts ls)) = none
 
 unfoldable pub readRow : List Symbol → List ℕ → Option Row
 readRow symbols [] = some (row nil [])

@@ -84,16 +84,16 @@ actOf clauses below g = literalsAct clauses below g (g .literals)
 pub record Question : Type 0 where
   pub goal : Goal
   pub heldOutside : ℕ
-  pub onProved : Level
-  pub onRefuted : Level
+  pub onSuccess : Level
+  pub onFailure : Level
   pub onUnsettled : Level
 
 unfoldable pub question : Place → Level → Goal → List Goal → ℕ → Terms → List Literal → Question
 question at l g gs p ts others = record {
   goal = record { answers = nil; literals = pos p ts ∷ [] };
   heldOutside = held at l;
-  onProved = withPending gs l;
-  onRefuted = withPending (record { answers = g .answers; literals = others } ∷ gs) l;
+  onSuccess = withPending gs l;
+  onFailure = withPending (record { answers = g .answers; literals = others } ∷ gs) l;
   onUnsettled = withParked undecided g gs l;
 }
 
@@ -138,29 +138,29 @@ pub data Ended : Type 0 where
 
 -- What a new level tells the outer one of its atom, and the steps left.
 pub data Verdict : Type 0 where
-  proved refuted unsettled : Verdict
-  cut : Stop → Verdict
+  succeeds fails unsettled : Verdict
+  interrupted : Stop → Verdict
 
 pub data Reply : Type 0 where
   reply : Verdict → ℕ → Reply
 
 unfoldable pub verdictOf : Ending → List Marked → Verdict
-verdictOf succeeded parked = proved
-verdictOf (stopped finished) [] = refuted
+verdictOf succeeded parked = succeeds
+verdictOf (stopped finished) [] = fails
 verdictOf (stopped finished) (m ∷ ms) = unsettled
-verdictOf (stopped budget) parked = cut budget
-verdictOf (stopped answers) parked = cut answers
-verdictOf (stopped store) parked = cut store
+verdictOf (stopped budget) parked = interrupted budget
+verdictOf (stopped answers) parked = interrupted answers
+verdictOf (stopped store) parked = interrupted store
 
 unfoldable pub replyOf : Ended → Reply
 replyOf (ended e l left) = reply (verdictOf e (l .parked)) left
 
 -- The closings cost nothing. A stop at any level stops the run, and the outer level is as it was before the step.
 unfoldable pub close : (Level → ℕ → Ended) → Level → Question → Reply → Ended
-close again l q (reply proved left) = again (q .onProved) left
-close again l q (reply refuted left) = again (q .onRefuted) left
+close again l q (reply succeeds left) = again (q .onSuccess) left
+close again l q (reply fails left) = again (q .onFailure) left
 close again l q (reply unsettled left) = again (q .onUnsettled) left
-close again l q (reply (cut s) left) = ended (stopped s) l left
+close again l q (reply (interrupted s) left) = ended (stopped s) l left
 
 -- A step costs 1. `again` goes on at this level, `decides` runs a new one.
 unfoldable pub proceed : (Level → ℕ → Ended) → (Question → ℕ → Reply) → Level → ℕ → Next → Ended
@@ -189,10 +189,10 @@ module _ (clauses : List Clause) (answerRoom storeSize : ℕ) where
   unfoldable pub nextOf : ℕ → Place → Level → ℕ → Next
   nextOf below at l left = nextFrom below at l (l .pending) left
 
-  -- A level's steps. `turns` only bounds the recursion: it is above `left`, and each turn costs a step (`level-unfolds`).
+  -- A level's steps. `fuel` only bounds the recursion: it is above `left`, and each turn costs a step (`level-unfolds`).
   unfoldable pub turn : (Question → ℕ → Reply) → ℕ → Place → ℕ → Level → ℕ → Ended
   turn decides below at zero l left = ended (stopped budget) l left
-  turn decides below at (suc turns) l left = proceed (turn decides below at turns) decides l left (nextOf below at l left)
+  turn decides below at (suc fuel) l left = proceed (turn decides below at fuel) decides l left (nextOf below at l left)
 
   -- The evaluation of a level. It calls the same evaluation, one level deeper, for its own "nots"; level 32 asks nothing.
   unfoldable pub evaluateLevel : ℕ → Place → Level → ℕ → Ended

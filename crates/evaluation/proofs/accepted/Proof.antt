@@ -6,7 +6,7 @@ use borrow.Author.Needs.{needs}
 use lib.ListN.{length}
 use Rattle.rules.specs.Decks.{symbolWords}
 use Rattle.rules.specs.Goals.{firstGoal}
-use Rattle.evaluation.specs.Store.{Holding}
+use Rattle.goals.specs.Store.{Holding}
 use Rattle.evaluation.proofs.RunLaws.{Accepts, run-accepts, accepted-query, blank-rows, ran-accepted}
 use Rattle.evaluation.proofs.accepted.Statement.{statement}
 use Rattle.evaluation.proofs.accepted.Tie as tie

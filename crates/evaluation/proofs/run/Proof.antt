@@ -4,7 +4,7 @@ use borrow.Author.Needs.{needs}
 use lib.ListN.{length}
 use Rattle.rules.specs.Run.{runOn}
 use Rattle.deck.specs.Answers.{numberOf}
-use Rattle.evaluation.specs.Top.{slices}
+use Rattle.evaluation.specs.Results.{slices}
 use Rattle.evaluation.proofs.RunLaws.{ran-refused}
 use Rattle.evaluation.proofs.run.Statement.{statement}
 use Rattle.evaluation.proofs.run.Tie as tie

@@ -9,7 +9,7 @@ use Rattle.rules.specs.Evaluation.{Outcome}
 use Rattle.report.specs.Reports.{reportOf}
 use Rattle.listing.specs.Shown.{Shown}
 use Rattle.listing.proofs.RunLaws.{run-shown}
-use Rattle.evaluation.specs.Top.{refusalFor}
+use Rattle.evaluation.specs.Results.{refusalFor}
 use Rattle.evaluation.proofs.RunLaws.{number-for}
 use Rattle.program.specs.Printed.{wordsRun}
 use Rattle.program.proofs.TextLaws.{refusal-printed, outcome-printed}

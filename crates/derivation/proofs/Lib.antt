@@ -1,0 +1,3 @@
+pub mod ClauseLaws
+pub mod ChildrenLaws
+pub mod DerivingLaws

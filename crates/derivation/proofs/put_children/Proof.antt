@@ -1,0 +1,303 @@
+-- `derive::put_children` meets its contract. The loop's invariant: after i clauses the goals that they gave are counted, and in the store as
+-- far as there is room. The measure is the number of clauses left. Assumes nothing.
+use Prim.Native.Nat.{ℕ, _+_, _-_, _*_, _≤_}
+use mathlib.Core.Path.{_≡_, refl, sym, _∙_, subst}
+use mathlib.Core.Logic.{inl, inr, ⊎-elim}
+use mathlib.Core.List.{List, _∷_}
+use borrow.Author.Needs.{needs}
+use native.Mathlib.Omega.{arith}
+use denote.Ref.{now}
+use lib.ListN.{length, take, drop}
+use mir.Syntax.{w64}
+use mir.Val.{Fits}
+use Rattle.rules.specs.Terms.{Terms}
+use Rattle.rules.specs.Syntax.{Literal, Clause, Deck, Goal}
+use Rattle.rules.specs.Resolution.{resolvent, resolvents}
+use Rattle.rules.proofs.DeckLaws.{steps-open}
+use Rattle.resolvents.specs.Deriving.{Rows, IsResolvent}
+use Rattle.derivation.specs.Derives.{Tries, tried}
+use Rattle.derivation.proofs.ClauseLaws.{clause-count, few-clauses, clause-of}
+use Rattle.derivation.proofs.ChildrenLaws.{resolvents-tried, tries-kept, After, same, more, after-length, after-few, child-short, Going, going-first, going-last, going-over, going-on}
+use Rattle.derivation.proofs.put_children.Statement.{statement}
+use Rattle.derivation.proofs.put_children.Tie as tie
+use Rattle.derivation.proofs.put_children.Reads as reads
+use Rattle.derivation.proofs.put_children.Lts as lts
+use Rattle.deck.proofs.parts.clause_count.Reads as clause-count-reads
+use Rattle.derivation.proofs.try_clause.Reads as try-clause-reads
+use Rattle.words.proofs.copy.Reads as copy-reads
+
+record Loop (deck store₀ cells₀ : List ℕ) (base size answers s e n count : ℕ) (store cells bind trail marks names order child : List ℕ) (end i : ℕ) : Type 0 where
+  passed : i ≤ count
+  storeLength : length store ≡ length store₀
+  cellsLength : length cells ≡ length cells₀
+  rows : Rows bind trail marks names order child
+  goalCells : take size cells ≡ take size cells₀
+  counted : end ≤ base + 1024 * i
+  going : (d : Deck) (g : Goal) (before : List Literal) (p : ℕ) (ts : Terms) (after : List Literal) → Tries deck cells₀ size answers s e n d g before p ts after
+      → Going (tried (resolvent n (g .answers) before ts after) p) (d .clauses) (resolvents (d .clauses) g before p ts after) store₀ store base end i
+
+abbrev Inv-loop : tie.InvT-loop
+Inv-loop deck store₀ base cells₀ size answers s e n bind₀ trail₀ marks₀ names₀ order₀ child₀ count end₀ i₀ store cells bind trail marks names order child end i =
+    Loop deck store₀ cells₀ base size answers s e n count store cells bind trail marks names order child end i
+
+abbrev μ-loop : tie.MeasureT-loop
+μ-loop deck store₀ base cells₀ size answers s e n bind₀ trail₀ marks₀ names₀ order₀ child₀ count end₀ i₀ store cells bind trail marks names order child end i =
+    count - i
+
+-- The loop's head, seen from after the call; and the entry, seen from the loop's head.
+abbrev head : tie.After-try-clause Inv-loop μ-loop → tie.At-loop Inv-loop μ-loop
+head k = k .before .before .before .before .before .before .before .before .before
+
+abbrev entry : tie.At-loop Inv-loop μ-loop → tie.Start Inv-loop μ-loop
+entry h = h .before .before .before .before .before .before .before .before .before .before .before
+
+abbrev Tried : tie.At-loop Inv-loop μ-loop → Deck → Goal → List Literal → ℕ → Terms → List Literal → Type 0
+Tried h d g before p ts after =
+    let a = entry h .args in Tries (now (a .deck)) (now (a .cells)) (a .size) (a .answers) (a .s) (a .e) (a .n) d g before p ts after
+
+-- Clause i, and what the call says of it.
+abbrev childOf : tie.After-try-clause Inv-loop μ-loop → List ℕ
+childOf k = k .try-clause .last .1 .1 .1 .1 .1 .1 .1 .1 .1 .1 .1 .1 .1 .0
+
+result : (k : tie.After-try-clause Inv-loop μ-loop) (d : Deck) (g : Goal) (before : List Literal) (p : ℕ) (ts : Terms) (after : List Literal)
+    → Tried (head k) d g before p ts after
+    → (c : Clause) × (drop (head k .loop .i) (d .clauses) ≡ c ∷ drop (head k .loop .i + 1) (d .clauses))
+    × IsResolvent (tried (resolvent (entry (head k) .args .n) (g .answers) before ts after) p c) (childOf k) (k .try-clause .result)
+result k d g before p ts after t =
+    let h = head k in
+    let r = clause-of (now (entry h .args .deck)) d (h .loop .i) (t .opens) (omega (arith, k .before .before .before .before .before .before .before .before .loop-test .taken, h .before .clause-count .ensures)) in (
+      r .clause,
+      r .place,
+      k .try-clause .ensures .0 d g before p ts after (r .clause) (tries-kept (h .loop .cells) (h .loop .inv .goalCells) (h .loop .inv .cellsLength) t) (r .place),
+    )
+
+-- A goal of at most 1,024 words, and the place after it.
+short : (c : tie.After-w Inv-loop μ-loop) → c .w .given .0 .0 ≤ 1024
+short c =
+    let k = c .before .before .before .before .before .before .before .before .before .before .before .before .before .before .before .before in
+    let t = entry (head k) .pre .0 in
+    let r = result k (t .deck) (t .goal) (t .before) (t .predicate) (t .terms) (t .after) (t .is) in
+    let o = tried (resolvent (entry (head k) .args .n) (t .goal .answers) (t .before) (t .terms) (t .after)) (t .predicate) (r .0) in
+    child-short o (childOf k) (c .w .given .0 .0) (subst (IsResolvent o (childOf k)) (c .w .given .1) (r .2))
+
+end-fits : (c : tie.After-w Inv-loop μ-loop) → Fits w64 (head (c .before .before .before .before .before .before .before .before .before .before .before .before .before .before .before .before) .loop .end + c .w .given .0 .0)
+end-fits c =
+    let k = c .before .before .before .before .before .before .before .before .before .before .before .before .before .before .before .before in
+    let h = head k in
+    let s = entry h in
+    omega (
+      arith,
+      short c,
+      h .loop .inv .counted,
+      k .before .before .before .before .before .before .before .before .loop-test .taken,
+      h .before .clause-count .ensures,
+      s .pre .1 .1 .1,
+      s .good .1 .0 .1,
+      few-clauses (now (s .args .deck)) (s .pre .0 .deck) (s .pre .0 .is .opens),
+    )
+
+-- What the match leaves.
+after : (c : tie.At-match-came Inv-loop μ-loop)
+    → let k = c .before .before .before .before .before .before .before .before .before .before .before .before .before .before .before in
+    After (head k .loop .store) (head k .loop .end) (childOf k) (c .match .store) (c .match .end) (k .try-clause .result)
+after c =
+    let k = c .before .before .before .before .before .before .before .before .before .before .before .before .before .before .before in
+    let A = After (head k .loop .store) (head k .loop .end) (childOf k) (c .match .store) (c .match .end) in
+    ⊎-elim (λ q. subst A (sym (q .1 .given .1)) (same (q .2) (q .3)))
+    (λ q. subst A (sym (q .1 .given .1)) (more (q .1 .given .0 .0)
+    (⊎-elim (λ u. inl (u .0 .taken, q .4 ∙ u .6 ∙ u .3 .ensures)) (λ u. inr (u .0 .left, q .4 ∙ u .1)) (q .3 .came)) (q .5))) (c .match .came)
+
+clause-count-requires : tie.Need-clause-count-requires Inv-loop μ-loop
+clause-count-requires c κs =
+    let s = c .before .before .before .before .before .before .before .before .before in steps-open (now (s .args .deck)) (s .pre .0 .deck) (s .pre .0 .is .opens) .fits
+
+loop-holds : tie.Need-loop-holds Inv-loop μ-loop
+loop-holds c =
+    let s = c .before .before .before .before .before .before .before .before .before .before in
+    let a = s .args in
+    record {
+      passed = omega arith;
+      storeLength = refl;
+      cellsLength = refl;
+      rows = s .pre .1 .0;
+      goalCells = refl;
+      counted = omega arith;
+      going = λ d g before p ts after t.
+          going-first (tried (resolvent (a .n) (g .answers) before ts after) p) (d .clauses) (resolvents (d .clauses) g before p ts after) (now (a .store)) (a .base)
+          (resolvents-tried (d .clauses) g before p ts after (a .n) (t .calls .fresh));
+    }
+
+try-clause-requires : tie.Need-try-clause-requires Inv-loop μ-loop
+try-clause-requires c κs =
+    let h = c .before .before .before .before .before .before .before .before in
+    let t = entry h .pre .0 in (
+      record {
+        deck = t .deck;
+        goal = t .goal;
+        before = t .before;
+        predicate = t .predicate;
+        terms = t .terms;
+        after = t .after;
+        is = tries-kept (h .loop .cells) (h .loop .inv .goalCells) (h .loop .inv .cellsLength) (t .is);
+      },
+      (
+        h .loop .inv .rows,
+        (omega (arith, h .loop .inv .cellsLength, entry h .pre .1 .1 .0), omega (arith, c .before .before .before .before .before .before .before .loop-test .taken, h .before .clause-count .ensures)),
+      ),
+    )
+
+enum-told : tie.Need-enum-told Inv-loop μ-loop
+enum-told c = search needs
+
+enum-known-w : tie.Need-enum-known-w Inv-loop μ-loop
+enum-known-w c = search needs
+
+add-if1 : tie.Need-add-if1 Inv-loop μ-loop
+add-if1 c = end-fits (c .before)
+
+copy-requires : tie.Need-copy-requires Inv-loop μ-loop
+copy-requires c κs =
+    (omega (arith, short (c .before .before .before .before), c .before .before .before .before .before .before .before .before .before .before .before .before .before .before .before .before .before .before .before .before .try-clause .ensures .1 .0 .childLength), c .before .before .if1 .taken)
+
+add-end : tie.Need-add-end Inv-loop μ-loop
+add-end c = end-fits (c .before .before)
+
+enum-told-2 : tie.Need-enum-told-2 Inv-loop μ-loop
+enum-told-2 c = search needs
+
+same-length : tie.Need-same-length Inv-loop μ-loop
+same-length c = search needs
+
+same-length-2 : tie.Need-same-length-2 Inv-loop μ-loop
+same-length-2 c = search needs
+
+same-length-3 : tie.Need-same-length-3 Inv-loop μ-loop
+same-length-3 c = omega (arith, entry (c .before .before .before .before .before .before .before .before .before .before .before .before .before .before .before .before .before .before .before .before .before .before .before .before .before) .pre .1 .0)
+
+same-length-4 : tie.Need-same-length-4 Inv-loop μ-loop
+same-length-4 c = omega (arith, entry (c .before .before .before .before .before .before .before .before .before .before .before .before .before .before .before .before .before .before .before .before .before .before .before .before .before) .pre .1 .0)
+
+same-length-5 : tie.Need-same-length-5 Inv-loop μ-loop
+same-length-5 c = omega (arith, entry (c .before .before .before .before .before .before .before .before .before .before .before .before .before .before .before .before .before .before .before .before .before .before .before .before .before) .pre .1 .0)
+
+same-length-6 : tie.Need-same-length-6 Inv-loop μ-loop
+same-length-6 c = omega (arith, entry (c .before .before .before .before .before .before .before .before .before .before .before .before .before .before .before .before .before .before .before .before .before .before .before .before .before) .pre .1 .0)
+
+same-length-7 : tie.Need-same-length-7 Inv-loop μ-loop
+same-length-7 c = omega (arith, entry (c .before .before .before .before .before .before .before .before .before .before .before .before .before .before .before .before .before .before .before .before .before .before .before .before .before) .pre .1 .0)
+
+same-length-8 : tie.Need-same-length-8 Inv-loop μ-loop
+same-length-8 c = omega (arith, entry (c .before .before .before .before .before .before .before .before .before .before .before .before .before .before .before .before .before .before .before .before .before .before .before .before .before) .pre .1 .0)
+
+returns : tie.Need-returns Inv-loop μ-loop
+returns c =
+    let k = c .before .before .before .before .before .before .before .before .before .before .before .before .before .before .before .before in
+    let h = head k in
+    let a = entry h .args in (
+      λ d g before p ts after t.
+          let r = result k d g before p ts after t in
+          let by = tried (resolvent (a .n) (g .answers) before ts after) p in
+          going-over by (d .clauses) (resolvents (d .clauses) g before p ts after) (now (a .store)) (a .base) (h .loop .store) (h .loop .end) (h .loop .i) (r .0) (r .1)
+          (h .loop .inv .going d g before p ts after t) (childOf k) (subst (IsResolvent (by (r .0)) (childOf k)) (c .enum-told2 .given .1) (r .2)),
+      (k .try-clause .ensures .1 .0, k .try-clause .ensures .1 .1 ∙ h .loop .inv .goalCells),
+    )
+
+add-i : tie.Need-add-i Inv-loop μ-loop
+add-i c = search needs
+
+loop-less : tie.Need-loop-less Inv-loop μ-loop
+loop-less c = search needs
+
+loop-again : tie.Need-loop-again Inv-loop μ-loop
+loop-again c =
+    let k = c .before .before .before .before .before .before .before .before .before .before .before .before .before .before .before in
+    let h = head k in
+    let a = entry h .args in
+    let t₀ = entry h .pre .0 in
+    let r₀ = result k (t₀ .deck) (t₀ .goal) (t₀ .before) (t₀ .predicate) (t₀ .terms) (t₀ .after) (t₀ .is) in
+    record {
+      passed = omega (arith, k .before .before .before .before .before .before .before .before .loop-test .taken);
+      storeLength = after-length (after c) ∙ h .loop .inv .storeLength;
+      cellsLength = k .try-clause .kept .1 .1 .0 ∙ h .loop .inv .cellsLength;
+      rows = k .try-clause .ensures .1 .0;
+      goalCells = k .try-clause .ensures .1 .1 ∙ h .loop .inv .goalCells;
+      counted = omega (arith, after-few (tried (resolvent (a .n) (t₀ .goal .answers) (t₀ .before) (t₀ .terms) (t₀ .after)) (t₀ .predicate) (r₀ .0)) (r₀ .2) (after c), h .loop .inv .counted);
+      going = λ d g before p ts after′ t.
+          let r = result k d g before p ts after′ t in
+          going-on (tried (resolvent (a .n) (g .answers) before ts after′) p) (d .clauses) (resolvents (d .clauses) g before p ts after′) (now (a .store)) (a .base)
+          (h .loop .store) (h .loop .end) (h .loop .i) (r .0) (r .1) (h .loop .inv .going d g before p ts after′ t) (childOf k) (k .try-clause .result) (r .2)
+          (h .loop .inv .storeLength) (c .match .store) (c .match .end) (after c);
+    }
+
+same-length-9 : tie.Need-same-length-9 Inv-loop μ-loop
+same-length-9 c = search needs
+
+same-length-10 : tie.Need-same-length-10 Inv-loop μ-loop
+same-length-10 c = search needs
+
+same-length-11 : tie.Need-same-length-11 Inv-loop μ-loop
+same-length-11 c = search needs
+
+same-length-12 : tie.Need-same-length-12 Inv-loop μ-loop
+same-length-12 c = search needs
+
+same-length-13 : tie.Need-same-length-13 Inv-loop μ-loop
+same-length-13 c = search needs
+
+same-length-14 : tie.Need-same-length-14 Inv-loop μ-loop
+same-length-14 c = search needs
+
+same-length-15 : tie.Need-same-length-15 Inv-loop μ-loop
+same-length-15 c = search needs
+
+same-length-16 : tie.Need-same-length-16 Inv-loop μ-loop
+same-length-16 c = search needs
+
+returns-2 : tie.Need-returns-2 Inv-loop μ-loop
+returns-2 c =
+    let h = c .before in
+    let a = entry h .args in (
+      λ d g before p ts after t.
+          going-last (tried (resolvent (a .n) (g .answers) before ts after) p) (d .clauses) (resolvents (d .clauses) g before p ts after) (now (a .store)) (a .base)
+          (h .loop .store) (h .loop .end) (h .loop .i)
+          (omega (arith, c .loop-test .left, h .before .clause-count .ensures, clause-count (now (a .deck)) d (t .opens)))
+          (h .loop .inv .going d g before p ts after t),
+      (h .loop .inv .rows, h .loop .inv .goalCells),
+    )
+
+pub put-children-spec : {M : Type 1} → statement M
+put-children-spec =
+    tie.close
+    (tie.spec
+    Inv-loop
+    μ-loop
+    clause-count-requires
+    loop-holds
+    try-clause-requires
+    enum-told
+    enum-known-w
+    add-if1
+    copy-requires
+    add-end
+    enum-told-2
+    same-length
+    same-length-2
+    same-length-3
+    same-length-4
+    same-length-5
+    same-length-6
+    same-length-7
+    same-length-8
+    returns
+    add-i
+    loop-less
+    loop-again
+    same-length-9
+    same-length-10
+    same-length-11
+    same-length-12
+    same-length-13
+    same-length-14
+    same-length-15
+    same-length-16
+    returns-2)

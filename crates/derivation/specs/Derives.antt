@@ -1,0 +1,74 @@
+-- The step on a selected positive literal.
+use Prim.Native.Nat.{ℕ, _+_, _-_, _≤_, _<_}
+use mathlib.Core.Path.{_≡_}
+use mathlib.Core.Bool.{true, false}
+use mathlib.Core.Option.{Option, none}
+use mathlib.Core.List.{List, _∷_, _++_}
+use lib.ListN.{length, take}
+use lib.Dec.{eqb}
+use Rattle.rules.specs.Terms.{Terms}
+use Rattle.rules.specs.Syntax.{Symbol, Literal, Clause, Deck, Goal, topGoal}
+use Rattle.rules.specs.Refusals.{accepted}
+use Rattle.rules.specs.Decks.{openDeck, symbolWords}
+use Rattle.rules.specs.Goals.{unmarked, goalWords, wordsOf, writeGoals}
+use Rattle.rules.specs.Resolution.{anyOversized}
+use Rattle.resolvents.specs.Deriving.{Calls}
+use Rattle.goals.specs.Store.{Holding}
+use Rattle.derivation.specs.declared.Children as children
+use Rattle.derivation.specs.declared.Children.the-variants as kinds
+use Rattle.derivation.specs.declared.Derived.{Derived}
+use Rattle.derivation.specs.declared.Derived.the-variants.{Words, Oversized, NoRoom}
+
+-- The deck opens.
+pub record Opens (deckWords : List ℕ) : Type 0 where
+  pub deck : Deck
+  pub opens : openDeck deckWords ≡ accepted deck
+
+-- The deck opens, and the first `size` cells are those of the goal g, in which p(ts), with `before` and `after` around it, stands from s up to e.
+pub record Tries (deckWords cells : List ℕ) (size answers s e n : ℕ) (d : Deck) (g : Goal) (before : List Literal) (p : ℕ) (ts : Terms) (after : List Literal) : Type 0 where
+  pub opens : openDeck deckWords ≡ accepted d
+  pub calls : Calls (symbolWords deckWords) cells size answers s e n (d .symbols) g before p ts after
+
+pub record SomeTries (deckWords cells : List ℕ) (size answers s e n : ℕ) : Type 0 where
+  pub deck : Deck
+  pub goal : Goal
+  pub before : List Literal
+  pub predicate : ℕ
+  pub terms : Terms
+  pub after : List Literal
+  pub is : Tries deckWords cells size answers s e n deck goal before predicate terms after
+
+-- What a clause gives: nothing unless it is about p.
+unfoldable pub tried : (Clause → Option Goal) → ℕ → Clause → Option Goal
+tried by p c = elim (eqb (c .predicate) p) [ true ↦ by c | false ↦ none ]
+
+-- The goals ds end at a place; where the store reaches that far they stand in it from base on. Or one of them is oversized.
+-- The words before base are as they were.
+abbrev pub Writes : List ℕ → ℕ → List Goal → List ℕ → children.Children → Type 0
+Writes store base ds store′ (kinds.To end) =
+    (anyOversized ds ≡ false) × (take base store′ ≡ take base store) × (end ≡ base + wordsOf ds)
+    × (end ≤ length store → take end store′ ≡ take base store ++ writeGoals (unmarked ds))
+Writes store base ds store′ kinds.Oversized = (anyOversized ds ≡ true) × (take base store′ ≡ take base store)
+
+-- The first goal held is g, its words from `base` up to `held`, and its cells stand at the start of `cells`.
+pub record Deriving (deckWords store cells : List ℕ) (base held answers s e : ℕ) (d : Deck) (g : Goal) (gs : List Goal) (before : List Literal) (p : ℕ) (ts : Terms) (after : List Literal) : Type 0 where
+  pub opens : openDeck deckWords ≡ accepted d
+  pub holding : Holding (d .symbols) store held (g ∷ gs)
+  pub begins : base + goalWords g ≡ held
+  pub calls : Calls (symbolWords deckWords) cells (held - base - 2) answers s e (topGoal g) (d .symbols) g before p ts after
+
+pub record SomeDeriving (deckWords store cells : List ℕ) (base held answers s e : ℕ) : Type 0 where
+  pub deck : Deck
+  pub first : Goal
+  pub goals : List Goal
+  pub before : List Literal
+  pub predicate : ℕ
+  pub terms : Terms
+  pub after : List Literal
+  pub is : Deriving deckWords store cells base held answers s e deck first goals before predicate terms after
+
+-- With the derived goals ds: they replace the goal; or one is oversized, or there is no room for them, and the store's goals are as they were.
+abbrev pub Derives : List Symbol → List ℕ → ℕ → List Goal → List Goal → List ℕ → Derived → Type 0
+Derives S store held gs ds store′ (Words end) = (anyOversized ds ≡ false) × Holding S store′ end (ds ++ gs)
+Derives S store held gs ds store′ Oversized = (anyOversized ds ≡ true) × (take held store′ ≡ take held store)
+Derives S store held gs ds store′ NoRoom = (anyOversized ds ≡ false) × (length store < wordsOf (ds ++ gs)) × (take held store′ ≡ take held store)

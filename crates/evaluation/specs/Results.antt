@@ -1,0 +1,29 @@
+-- The result of the public run as the rules': a refusal, or the report.
+use Prim.Native.Nat.{ℕ}
+use mathlib.Core.List.{List}
+use Rattle.rules.specs.Refusals as rules
+use Rattle.rules.specs.Run as run
+use Rattle.report.specs.Reports.{reportOf}
+use Rattle.deck.specs.declared.Refusal.{Refusal}
+use Rattle.deck.specs.declared.Refusal.the-variants.{Header, Symbol as BadSymbol, Starts, LongClause, Clause, LongQuery, Query, Store, Scratch}
+use Rattle.evaluation.specs.declared.Ran.{Ran}
+use Rattle.evaluation.specs.declared.Ran.the-variants.{Refused, Done}
+
+-- The refusals of the code as those of the rules, and the result of a run.
+abbrev pub refusalFor : Refusal → rules.Refusal
+refusalFor Header = rules.badHeader
+refusalFor BadSymbol = rules.badSymbol
+refusalFor Starts = rules.badStarts
+refusalFor LongClause = rules.longClause
+refusalFor Clause = rules.badClause
+refusalFor LongQuery = rules.longQuery
+refusalFor Query = rules.badQuery
+refusalFor Store = rules.badStore
+refusalFor Scratch = rules.badScratch
+
+abbrev pub resultOf : Ran → rules.Checked run.Report
+resultOf (Refused why) = rules.refused (refusalFor why)
+resultOf (Done r) = rules.accepted (reportOf r)
+
+abbrev pub slices : List ℕ → List ℕ → List ℕ → run.Slices
+slices answers store scratch = record { answers = answers; store = store; scratch = scratch }

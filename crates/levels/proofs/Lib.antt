@@ -1,0 +1,5 @@
+pub mod NegativeLaws
+pub mod StepLaws
+pub mod TurnLaws
+pub mod GoingLaws
+pub mod ChoiceLaws

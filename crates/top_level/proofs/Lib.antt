@@ -1,0 +1,4 @@
+pub mod StoredLaws
+pub mod TopLaws
+pub mod CountLaws
+pub mod FirstLaws
