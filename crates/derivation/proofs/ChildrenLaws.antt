@@ -1,13 +1,13 @@
 -- The derived goals, clause by clause, and where they are written. Assumes nothing.
-use Prim.Native.Nat.{ℕ, suc, _+_, _*_, _≤_, _<_}
+use Prim.Native.Nat.{ℕ, zero, suc, _+_, _-_, _*_, _≤_, _<_}
 use mathlib.Core.Path.{_≡_, refl, ap, sym, _∙_, subst}
 use mathlib.Core.Logic.{_⊎_, ⊎-elim}
 use mathlib.Core.Bool.{Bool, true, false, _||_}
 use mathlib.Core.Option.{Option, none, some}
 use mathlib.Core.List.{List, [], _∷_, _++_, append-assoc, append-nil}
 use native.Mathlib.Omega.{arith}
-use lib.ListN.{length, take, drop, drop-of-length-le}
-use lib.Seq.{sets, length-sets}
+use lib.ListN.{length, take, drop, drop-of-length-le, length-drop}
+use lib.Seq.{sets, length-sets, drop-drop}
 use lib.Dec.{eqb, ltb}
 use borrow.Author.Tests.{eq-eqb, ne-eqb, lt-ltb, le-ltb}
 use Rattle.rules.specs.Terms.{Terms}
@@ -21,6 +21,7 @@ use Rattle.resolvents.specs.Selecting.{GoalCells}
 use Rattle.resolvents.specs.Deriving.{IsResolvent}
 use Rattle.resolvents.specs.declared.resolve.Resolved.{Resolved}
 use Rattle.resolvents.specs.declared.resolve.Resolved.the-variants.{Nothing, Child, Oversized}
+use Rattle.clauses.specs.Clauses.{ClauseAt, NextAbout}
 use Rattle.derivation.specs.Derives.{Tries, tried, Writes}
 use Rattle.derivation.specs.declared.Children.the-variants as kinds
 
@@ -188,3 +189,40 @@ module _ (by : Clause → Option Goal) (cs : List Clause) (all : List Goal) (sto
                   (append-assoc (take base store₀) (writeGoals (unmarked (r .given))) (writeGoal (marked pending g))))
                   (λ q. absurd (omega arith)) k;
             }
+
+-- Clauses that are not about the predicate give nothing.
+module _ (b : Clause → Option Goal) (p : ℕ) (cs : List Clause) where
+  pass-one : (i : ℕ) → ((c : Clause) → ClauseAt cs i c → c .predicate ≡ p → ⊥) → collect (tried b p) (drop i cs) ≡ collect (tried b p) (drop (i + 1) cs)
+  unfolding collect keepSome
+  pass-one i h = go (drop i cs) refl
+    where
+      go : (l : List Clause) → drop i cs ≡ l → collect (tried b p) (drop i cs) ≡ collect (tried b p) (drop (i + 1) cs)
+      go [] e =
+          let past : length cs ≤ i = omega (arith, ap length e, length-drop i cs) in
+          rw (e, drop-of-length-le cs {i = i + 1} (omega arith))
+      go (c ∷ l) e =
+          let r : drop (i + 1) cs ≡ l = sym (drop-drop 1 i cs) ∙ ap (drop 1) e in
+          rw (e, r, tried-other b p c (h c (e ∙ ap (c ∷_) (sym r))))
+
+  pass-some : (n i : ℕ) → ((k : ℕ) (c : Clause) → i ≤ k → k < i + n → ClauseAt cs k c → c .predicate ≡ p → ⊥)
+      → collect (tried b p) (drop i cs) ≡ collect (tried b p) (drop (i + n) cs)
+  pass-some zero i h = let e : i + 0 ≡ i = omega arith in rw e
+  pass-some (suc n) i h =
+      let e : i + 1 + n ≡ i + suc n = omega arith in
+      pass-one i (λ c at. h i c (omega arith) (omega arith) at)
+      ∙ pass-some n (i + 1) (λ k c a l at. h k c (omega arith) (omega arith) at)
+      ∙ ap (λ (m : ℕ). collect (tried b p) (drop m cs)) e
+
+  pub going-past : {all : List Goal} {store₀ store : List ℕ} {base end i j : ℕ} → NextAbout p cs i j → Going (tried b p) cs all store₀ store base end i
+      → Going (tried b p) cs all store₀ store base end j
+  going-past {i = i} {j} n r =
+      let e : i + (j - i) ≡ j = omega (arith, n .later) in
+      record {
+        given = r .given;
+        whole = r .whole ∙ ap (r .given ++_) (pass-some (j - i) i (λ k c a l at. n .passed k c a (omega (arith, n .later)) at) ∙ ap (λ (m : ℕ). collect (tried b p) (drop m cs)) e);
+        short = r .short;
+        few = omega (arith, r .few, n .later);
+        reaches = r .reaches;
+        kept = r .kept;
+        words = r .words;
+      }

@@ -1,3 +1,3 @@
-pub mod ClauseLaws
+pub mod LiteralLaws
 pub mod ChildrenLaws
 pub mod DerivingLaws

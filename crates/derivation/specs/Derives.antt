@@ -19,11 +19,6 @@ use Rattle.derivation.specs.declared.Children.the-variants as kinds
 use Rattle.derivation.specs.declared.Derived.{Derived}
 use Rattle.derivation.specs.declared.Derived.the-variants.{Words, Oversized, NoRoom}
 
--- The deck opens.
-pub record Opens (deckWords : List ℕ) : Type 0 where
-  pub deck : Deck
-  pub opens : openDeck deckWords ≡ accepted deck
-
 -- The deck opens, and the first `size` cells are those of the goal g, in which p(ts), with `before` and `after` around it, stands from s up to e.
 pub record Tries (deckWords cells : List ℕ) (size answers s e n : ℕ) (d : Deck) (g : Goal) (before : List Literal) (p : ℕ) (ts : Terms) (after : List Literal) : Type 0 where
   pub opens : openDeck deckWords ≡ accepted d

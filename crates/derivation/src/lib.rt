@@ -5,16 +5,20 @@ ghost use mathlib.Core.List.{List, _∷_};
 ghost use lib.ListN.{length, take, drop};
 ghost use Rattle.rules.specs.Terms.{Terms};
 ghost use Rattle.rules.specs.Syntax.{Literal, Clause, Deck, Goal};
-ghost use Rattle.rules.specs.Refusals.{accepted};
-ghost use Rattle.rules.specs.Decks.{writeClause, clauseWords, openDeck};
+ghost use Rattle.rules.specs.Decks.{clauseWords};
 ghost use Rattle.rules.specs.Resolution.{resolvent, resolvents};
 ghost use Rattle.resolvents.specs.Deriving.{Rows, IsResolvent};
-ghost use Rattle.derivation.specs.Derives.{Opens, Tries, SomeTries, tried, Writes, Deriving, SomeDeriving, Derives};
+ghost use Rattle.clauses.specs.Clauses.{Indexed};
+ghost use Rattle.derivation.specs.Derives.{Tries, SomeTries, tried, Writes, Deriving, SomeDeriving, Derives};
+use clauses::clause_cells;
+use clauses::first_about;
+use clauses::next_about;
 use deck::parts;
 use goals::restore;
 use resolvents::fresh::variables;
 use resolvents::resolve::Resolved;
 use resolvents::resolve::resolve_clause;
+use words::wide;
 
 // The place after the goals; or one is oversized; or there is no room for all of them.
 pub enum Derived {
@@ -45,10 +49,11 @@ pub fn derive(
     names: &mut [u16],
     order: &mut [u16],
     child: &mut [u16],
+    index: &[u16],
 ) -> Derived
     requires { ⌜ SomeDeriving (now deck) (now store) (now cells) base held answers s e ⌝ }
     requires { ⌜ Rows (now bind) (now trail) (now marks) (now names) (now order) (now child) ⌝ }
-    requires { ⌜ 8192 ≤ length (now cells) ⌝ }
+    requires { ⌜ (8192 ≤ length (now cells)) × Indexed (now deck) (now index) ⌝ }
     ensures { λ r. ⌜ ((d : Deck) (g : Goal) (gs : List Goal) (before : List Literal) (p : ℕ) (ts : Terms) (after : List Literal) → Deriving (now (deck .entry)) (now (store .entry)) (now (cells .entry)) base held answers s e d g gs before p ts after → Derives (d .symbols) (now (store .entry)) held gs (resolvents (d .clauses) g before p ts after) (now (store .exit)) r) ⌝ }
     ensures { λ _. ⌜ Rows (now (bind .exit)) (now (trail .exit)) (now (marks .exit)) (now (names .exit)) (now (order .exit)) (now (child .exit)) ⌝ }
 {
@@ -70,6 +75,7 @@ pub fn derive(
         names,
         order,
         child,
+        index,
     ) {
         Children::Oversized => {
             restore(store, base, held, cells, answers);
@@ -87,7 +93,7 @@ pub fn derive(
     }
 }
 
-// Writes the derived goals in deck order from base on, as far as there is room. Every clause is tried unless a goal is oversized.
+// Writes the derived goals in deck order from base on, as far as there is room. Every clause about the predicate is tried unless a goal is oversized.
 fn put_children(
     deck: &[u16],
     store: &mut [u16],
@@ -104,17 +110,18 @@ fn put_children(
     names: &mut [u16],
     order: &mut [u16],
     child: &mut [u16],
+    index: &[u16],
 ) -> Children
     requires { ⌜ SomeTries (now deck) (now cells) size answers s e n ⌝ }
     requires { ⌜ Rows (now bind) (now trail) (now marks) (now names) (now order) (now child) ⌝ }
-    requires { ⌜ (8192 ≤ length (now cells)) × (base ≤ length (now store)) ⌝ }
+    requires { ⌜ (8192 ≤ length (now cells)) × (base ≤ length (now store)) × Indexed (now deck) (now index) ⌝ }
     ensures { λ r. ⌜ ((d : Deck) (g : Goal) (before : List Literal) (p : ℕ) (ts : Terms) (after : List Literal) → Tries (now (deck .entry)) (now (cells .entry)) size answers s e n d g before p ts after → Writes (now (store .entry)) base (resolvents (d .clauses) g before p ts after) (now (store .exit)) r) ⌝ }
     ensures { λ _. ⌜ Rows (now (bind .exit)) (now (trail .exit)) (now (marks .exit)) (now (names .exit)) (now (order .exit)) (now (child .exit)) ⌝ }
     ensures { λ _. ⌜ take size (now (cells .exit)) ≡ take size (now (cells .entry)) ⌝ }
 {
     let count = parts::clause_count(deck);
     let mut end = base;
-    let mut i = 0;
+    let mut i = first_about(index, wide(cells[s]));
     while i < count {
         match try_clause(
             deck,
@@ -143,7 +150,7 @@ fn put_children(
                 return Children::Oversized;
             }
         }
-        i += 1;
+        i = next_about(index, i);
     }
     Children::To(end)
 }
@@ -192,15 +199,4 @@ fn try_clause(
         order,
         child,
     )
-}
-
-// The cells of clause i.
-fn clause_cells(deck: &[u16], i: usize) -> &[u16]
-    requires { ⌜ Opens (now deck) × (i < length (clauseWords (now deck))) ⌝ }
-    ensures { λ r. ⌜ ((d : Deck) (c : Clause) → openDeck (now (deck .entry)) ≡ accepted d → drop i (d .clauses) ≡ c ∷ drop (i + 1) (d .clauses) → now r ≡ writeClause c) ⌝ }
-{
-    let cells = parts::cells(deck);
-    let from = parts::clause_start(deck, i);
-    let to = parts::clause_end(deck, i);
-    &cells[from..to]
 }

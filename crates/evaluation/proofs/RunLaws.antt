@@ -23,6 +23,7 @@ use Rattle.deck.specs.Answers.{numberOf}
 use Rattle.report.specs.Reports.{stopOf as stopOf′}
 use Rattle.report.specs.declared.Report.{Report}
 use Rattle.resolvents.specs.Deriving.{Rows}
+use Rattle.clauses.specs.Clauses.{Blank}
 use Rattle.top_level.specs.Top.{Queries, Topped}
 use Rattle.evaluation.specs.Results.{refusalFor, resultOf, slices}
 use Rattle.evaluation.specs.declared.Ran.the-variants as kind
@@ -181,6 +182,9 @@ blank-rows n m e f =
       orderLength = none ∙ e;
       childLength = length-replicate {A = ℕ} m 0 ∙ f;
     }
+
+pub blank-index : (n : ℕ) → n ≡ 12288 → Blank (replicate n 65535)
+blank-index n e = record { size = length-replicate {A = ℕ} n 65535 ∙ e; none = λ p h. getD-replicate {A = ℕ} n p 65535 0 (omega arith) }
 
 -- THE RUN, refused and accepted.
 pub ran-refused : (deckWords queryWords : List ℕ) (total : ℕ) (s : Slices) (why : declared.Refusal)

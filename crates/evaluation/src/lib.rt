@@ -73,6 +73,8 @@ fn accepted(
     let mut names = [65535u16; 1280];
     let mut order = [0u16; 1280];
     let mut child = [0u16; 1024];
+    let mut index = [65535u16; 12288];
+    clauses::fill_index(deck, &mut index);
     let start = top_level::first(query, store);
     top_level::top(
         deck,
@@ -87,5 +89,6 @@ fn accepted(
         &mut names,
         &mut order,
         &mut child,
+        &index,
     )
 }

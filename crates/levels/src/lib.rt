@@ -9,6 +9,7 @@ ghost use Rattle.rules.specs.Refusals.{accepted};
 ghost use Rattle.rules.specs.Decks.{openDeck};
 ghost use Rattle.resolvents.specs.Deriving.{Rows};
 ghost use Rattle.goals.specs.Store.{Holding, SomeHolding, SomeFirst, atomGoal};
+ghost use Rattle.clauses.specs.Clauses.{Indexed};
 ghost use Rattle.levels.specs.Levels.{Turned, Replied, Asking, SomeDecision, Negates, SomeNegates, Negating, SomeNegating, Asked, expandedTo, verdictFor, finishedBy};
 use deck::parts;
 use derivation::Derived;
@@ -19,6 +20,7 @@ use goals::remove;
 use report::Stop;
 use resolvents::select::Selected;
 use resolvents::select::select_literal;
+use words::wide;
 
 // What a step came to, with the steps used so far: the goal has no literals (the step is not taken here); it is to be parked;
 // the goals held now; or the run stops.
@@ -57,10 +59,11 @@ pub fn take_step(
     names: &mut [u16],
     order: &mut [u16],
     child: &mut [u16],
+    index: &[u16],
 ) -> Turn
     requires { ⌜ SomeFirst (now deck) (now store) held ⌝ }
     requires { ⌜ Rows (now bind) (now trail) (now marks) (now names) (now order) (now child) ⌝ }
-    requires { ⌜ (8192 ≤ length (now cells)) × (steps < budget) ⌝ }
+    requires { ⌜ (8192 ≤ length (now cells)) × (steps < budget) × Indexed (now deck) (now index) ⌝ }
     ensures { λ r. ⌜ ((d : Deck) (g : Goal) (gs : List Goal) → openDeck (now (deck .entry)) ≡ accepted d → Holding (d .symbols) (now (store .entry)) held (g ∷ gs) → Turned d below (now (store .entry)) held budget steps g gs (now (store .exit)) r) ⌝ }
     ensures { λ _. ⌜ Rows (now (bind .exit)) (now (trail .exit)) (now (marks .exit)) (now (names .exit)) (now (order .exit)) (now (child .exit)) ⌝ }
 {
@@ -90,6 +93,7 @@ pub fn take_step(
                 names,
                 order,
                 child,
+                index,
             );
             expanded(derived, steps)
         }
@@ -109,14 +113,9 @@ pub fn take_step(
             names,
             order,
             child,
+            index,
         ),
     }
-}
-
-fn wide(word: u16) -> usize
-    ensures { λ r. ⌜ r ≡ word ⌝ }
-{
-    word as usize
 }
 
 // A step on a selected positive literal, by what became of the derived goals.
@@ -148,10 +147,11 @@ fn negate(
     names: &mut [u16],
     order: &mut [u16],
     child: &mut [u16],
+    index: &[u16],
 ) -> Turn
     requires { ⌜ SomeNegating (now deck) (now store) (now cells) held s e ⌝ }
     requires { ⌜ Rows (now bind) (now trail) (now marks) (now names) (now order) (now child) ⌝ }
-    requires { ⌜ (8192 ≤ length (now cells)) × (steps < budget) ⌝ }
+    requires { ⌜ (8192 ≤ length (now cells)) × (steps < budget) × Indexed (now deck) (now index) ⌝ }
     ensures { λ r. ⌜ ((d : Deck) (g : Goal) (gs : List Goal) (before : List Literal) (p : ℕ) (ts : Terms) (after : List Literal) → Negating (now (deck .entry)) (now (store .entry)) (now (cells .entry)) held s e d g gs before p ts after → Turned d below (now (store .entry)) held budget steps g gs (now (store .exit)) r) ⌝ }
     ensures { λ _. ⌜ Rows (now (bind .exit)) (now (trail .exit)) (now (marks .exit)) (now (names .exit)) (now (order .exit)) (now (child .exit)) ⌝ }
 {
@@ -177,6 +177,7 @@ fn negate(
         names,
         order,
         child,
+        index,
     );
     settle(store, held, s, e, inner)
 }
@@ -217,10 +218,11 @@ pub fn decide(
     names: &mut [u16],
     order: &mut [u16],
     child: &mut [u16],
+    index: &[u16],
 ) -> Reply
     requires { ⌜ SomeDecision (now deck) (now cells) s e ⌝ }
     requires { ⌜ Rows (now bind) (now trail) (now marks) (now names) (now order) (now child) ⌝ }
-    requires { ⌜ (8192 ≤ length (now cells)) × (steps ≤ budget) × (0 < below) × (held + (e - s) + 2 ≤ length (now store)) ⌝ }
+    requires { ⌜ (8192 ≤ length (now cells)) × (steps ≤ budget) × (0 < below) × (held + (e - s) + 2 ≤ length (now store)) × Indexed (now deck) (now index) ⌝ }
     ensures { λ r. ⌜ ((d : Deck) (p : ℕ) (ts : Terms) → openDeck (now (deck .entry)) ≡ accepted d → Asking (now (cells .entry)) s e (d .symbols) p ts → Replied d (below - 1) (length (now (store .entry)) - held) (atomGoal p ts ∷ []) budget steps r) ⌝ }
     ensures { λ _. ⌜ Rows (now (bind .exit)) (now (trail .exit)) (now (marks .exit)) (now (names .exit)) (now (order .exit)) (now (child .exit)) ⌝ }
     ensures { λ _. ⌜ take held (now (store .exit)) ≡ take held (now (store .entry)) ⌝ }
@@ -240,6 +242,7 @@ pub fn decide(
         names,
         order,
         child,
+        index,
     )
 }
 
@@ -258,10 +261,11 @@ pub fn level(
     names: &mut [u16],
     order: &mut [u16],
     child: &mut [u16],
+    index: &[u16],
 ) -> Reply
     requires { ⌜ SomeHolding (now deck) (now store) start ⌝ }
     requires { ⌜ Rows (now bind) (now trail) (now marks) (now names) (now order) (now child) ⌝ }
-    requires { ⌜ (8192 ≤ length (now cells)) × (used ≤ budget) ⌝ }
+    requires { ⌜ (8192 ≤ length (now cells)) × (used ≤ budget) × Indexed (now deck) (now index) ⌝ }
     ensures { λ r. ⌜ ((d : Deck) (gs : List Goal) → openDeck (now (deck .entry)) ≡ accepted d → Holding (d .symbols) (now (store .entry)) start gs → Replied d below (length (now (store .entry))) gs budget used r) ⌝ }
     ensures { λ _. ⌜ Rows (now (bind .exit)) (now (trail .exit)) (now (marks .exit)) (now (names .exit)) (now (order .exit)) (now (child .exit)) ⌝ }
 {
@@ -289,6 +293,7 @@ pub fn level(
             names,
             order,
             child,
+            index,
         ) {
             Turn::Empty => {
                 return Reply {

@@ -284,6 +284,20 @@ cell-written S c = go (decLt c 16384) (decLt c 32768)
 pub written-as : (S : List Symbol) (c : ℕ) (cell : Cell) → readCell S c ≡ cell → Written cell c
 written-as S c cell e = subst (λ x. Written x c) e (cell-written S c)
 
+-- A predicate is one of the symbols.
+elem-below : (S : List Symbol) (i : ℕ) (s : Symbol) → getElem? S i ≡ some s → i < length S
+elem-below [] i s e = absurd (Option·none-ne-some s e)
+elem-below (t ∷ S) zero s e = omega arith
+elem-below (t ∷ S) (suc i) s e = omega (arith, elem-below S i s e)
+
+pub positive-below : (S : List Symbol) (p k : ℕ) → readCell S p ≡ positive p k → p < length S
+unfolding symbolCell
+positive-below S p k e = go (getElem? S p) refl (sym (cell-symbol S p (written-as S p (positive p k) e .1)) ∙ e)
+  where
+    go : (o : Option Symbol) → getElem? S p ≡ o → symbolCell p o ≡ positive p k → p < length S
+    go none q z = let n : _≡_ {A = ℕ} 0 1 = cc in omega arith
+    go (some s) q z = elem-below S p s q
+
 -- The row that cells are the writing of.
 pub record Reads (S : List Symbol) (cs : List ℕ) (ts : Terms) (ls : List Literal) : Type 0 where
   pub written : cs ≡ writeTerms ts (writeLiterals ls)

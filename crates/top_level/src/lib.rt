@@ -9,6 +9,7 @@ ghost use Rattle.rules.specs.Decks.{openDeck};
 ghost use Rattle.rules.specs.Goals.{Marked, goalWords, firstGoal, markNumber};
 ghost use Rattle.rules.specs.Evaluation.{Level, withParked};
 ghost use Rattle.resolvents.specs.Deriving.{Rows};
+ghost use Rattle.clauses.specs.Clauses.{Indexed};
 ghost use Rattle.goals.specs.Store.{Holding, SomeHolding, markOf};
 ghost use Rattle.top_level.specs.Top.{Stored, SomeStored, Written, SomeWritten, Queries, SomeQuery, Ordered, Topped};
 use goals::Mark;
@@ -64,10 +65,11 @@ pub fn top(
     names: &mut [u16],
     order: &mut [u16],
     child: &mut [u16],
+    index: &[u16],
 ) -> Report
     requires { ⌜ SomeHolding (now deck) (now store) start ⌝ }
     requires { ⌜ Rows (now bind) (now trail) (now marks) (now names) (now order) (now child) ⌝ }
-    requires { ⌜ (8192 ≤ length (now cells)) × (length (now store) ≤ 65535) ⌝ }
+    requires { ⌜ (8192 ≤ length (now cells)) × (length (now store) ≤ 65535) × Indexed (now deck) (now index) ⌝ }
     ensures { λ r. ⌜ ((d : Deck) (gs : List Goal) → openDeck (now (deck .entry)) ≡ accepted d → Holding (d .symbols) (now (store .entry)) start gs → Topped d (now (answers .entry)) (now (store .entry)) gs budget (now (answers .exit)) (now (store .exit)) r) ⌝ }
 {
     let mut held = start;
@@ -95,6 +97,7 @@ pub fn top(
             names,
             order,
             child,
+            index,
         ) {
             Turn::Empty => {
                 let end = parked + held;

@@ -5,6 +5,13 @@ ghost use mathlib.Core.List.{reverse, _++_};
 ghost use lib.ListN.{length, take, drop};
 ghost use lib.Seq.{sets};
 
+// A word as a number of words.
+pub fn wide(word: u16) -> usize
+    ensures { λ r. ⌜ r ≡ word ⌝ }
+{
+    word as usize
+}
+
 // Reverses the words of s from a up to, not including, b.
 pub fn reverse_range(s: &mut [u16], a: usize, b: usize)
     requires { ⌜ (a ≤ b) × (b ≤ length (now s)) ⌝ }

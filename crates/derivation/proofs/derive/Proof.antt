@@ -13,7 +13,7 @@ use Rattle.rules.specs.Decks.{symbolWords}
 use Rattle.rules.specs.Resolution.{resolvents}
 use Rattle.derivation.specs.Derives.{Deriving, Derives, Writes}
 use Rattle.derivation.specs.declared.Derived.the-variants.{Words, Oversized, NoRoom}
-use Rattle.derivation.proofs.DerivingLaws.{Numbers, numbers, tries, derives-oversized, derives-no-room, derives-words}
+use Rattle.derivation.proofs.DerivingLaws.{numbers, tries, derives-oversized, derives-no-room, derives-words}
 use Rattle.derivation.proofs.derive.Statement.{statement}
 use Rattle.derivation.proofs.derive.Tie as tie
 use Rattle.derivation.proofs.derive.Reads as reads
@@ -25,7 +25,7 @@ use Rattle.words.proofs.reverse_range.Reads as reverse-range-reads
 
 -- The entry, seen from where the number of variables is known; and that place, seen from after the loop's call.
 abbrev entry : tie.After-variables → tie.Start
-entry k = k .before .before .before .before .before .before .before .before .before .before .before
+entry k = k .before .before .before .before .before .before .before .before .before .before .before .before
 
 abbrev counted : tie.After-put-children → tie.After-variables
 counted k = k .before .before .before .before .before .before .before .before .before
@@ -63,14 +63,14 @@ sub-size : tie.Need-sub-size
 sub-size c = search needs
 
 sub-size-2 : tie.Need-sub-size-2
-sub-size-2 c = omega (arith, numbers (c .before .before .before .before .before .before .before .before .before .pre .0 .is) .low)
+sub-size-2 c = omega (arith, numbers (c .before .before .before .before .before .before .before .before .before .before .pre .0 .is) .low)
 
 slice-reshare-prefix-variables : tie.Need-slice-reshare-prefix-variables
 slice-reshare-prefix-variables c = search needs
 
 slice-aggregate-variables : tie.Need-slice-aggregate-variables
 slice-aggregate-variables c =
-    let s = c .before .before .before .before .before .before .before .before .before .before in sym (length-take-le (s .args .held - s .args .base - 2) (now (s .args .cells)) (numbers (s .pre .0 .is) .room))
+    let s = c .before .before .before .before .before .before .before .before .before .before .before in sym (length-take-le (s .args .held - s .args .base - 2) (now (s .args .cells)) (numbers (s .pre .0 .is) .room))
 
 variables-requires : tie.Need-variables-requires
 variables-requires c κs = search needs
@@ -89,7 +89,7 @@ put-children-requires c κs =
         after = t .after;
         is = tries (t .is) (k .variables .result) (fresh k (t .deck) (t .first) (t .goals) (t .before) (t .predicate) (t .terms) (t .after) (t .is));
       },
-      (s .pre .1 .0, (s .pre .1 .1, omega (arith, numbers (t .is) .low, numbers (t .is) .inside))),
+      (s .pre .1 .0, (s .pre .1 .1 .0, omega (arith, numbers (t .is) .low, numbers (t .is) .inside), s .pre .1 .1 .1)),
     )
 
 enum-told : tie.Need-enum-told

@@ -1,7 +1,6 @@
 -- `derive::try_clause` meets its contract: the clause's first cell is its predicate, and the literal's first cell the literal's. Assumes nothing.
 use Prim.Native.Nat.{ℕ, _+_, _<_}
 use mathlib.Core.Path.{_≡_, refl, sym, _∙_, subst}
-use mathlib.Core.Option.{Option}
 use mathlib.Core.List.{List, _∷_}
 use borrow.Author.Needs.{needs}
 use native.Mathlib.Omega.{arith}
@@ -10,21 +9,21 @@ use lib.ListN.{length, getD, drop}
 use Rattle.rules.specs.Terms.{Terms}
 use Rattle.rules.specs.Syntax.{Literal, Clause, Deck, Goal}
 use Rattle.rules.specs.Refusals.{accepted}
-use Rattle.rules.specs.Decks.{writeClause, symbolWords, openDeck}
+use Rattle.rules.specs.Decks.{openDeck}
 use Rattle.rules.specs.Resolution.{resolvent}
 use Rattle.rules.specs.WellFormed.{WfClause}
 use Rattle.rules.proofs.DeckLaws.{steps-open}
-use Rattle.resolvents.specs.Deriving.{Calls, About, IsResolvent}
-use Rattle.resolvents.specs.declared.resolve.Resolved.the-variants.{Nothing}
+use Rattle.resolvents.specs.Deriving.{Calls, About}
 use Rattle.derivation.specs.Derives.{Tries}
-use Rattle.derivation.proofs.ClauseLaws.{clause-of, first-cell, literal-cell}
+use Rattle.clauses.proofs.ClauseLaws.{clause-of, first-cell}
+use Rattle.derivation.proofs.LiteralLaws.{literal-cell}
 use Rattle.derivation.proofs.ChildrenLaws.{tried-about, tried-other}
 use Rattle.derivation.proofs.try_clause.Statement.{statement}
 use Rattle.derivation.proofs.try_clause.Tie as tie
 use Rattle.derivation.proofs.try_clause.Reads as reads
 use Rattle.derivation.proofs.try_clause.Lts as lts
 use Rattle.deck.proofs.parts.symbols.Reads as symbols-reads
-use Rattle.derivation.proofs.clause_cells.Reads as clause-cells-reads
+use Rattle.clauses.proofs.clause_cells.Reads as clause-cells-reads
 use Rattle.resolvents.proofs.resolve.resolve_clause.Reads as resolve-clause-reads
 
 -- The entry, seen from where the clause's cells are known; and that place, seen from the branch on the predicate.

@@ -19,18 +19,18 @@ use Rattle.top_level.proofs.top.Statement.{statement}
 use Rattle.top_level.proofs.top.Tie as tie
 
 abbrev Inv-loop : tie.InvT-loop
-Inv-loop deck start budget answers₀ store₀ cells₀ bind₀ trail₀ marks₀ names₀ order₀ child₀ held₀ parked₀ steps₀ used₀ count₀ stop₀ answers store cells bind trail marks names order child held parked steps used count stop =
+Inv-loop deck start budget answers₀ store₀ cells₀ bind₀ trail₀ marks₀ names₀ order₀ child₀ index held₀ parked₀ steps₀ used₀ count₀ stop₀ answers store cells bind trail marks names order child held parked steps used count stop =
     Sizes store₀ cells₀ store cells bind trail marks names order child
     × Counted answers₀ answers budget steps used count stop
     × ((d : Deck) (gs : List Goal) → openDeck deck ≡ accepted d → Holding (d .symbols) store₀ start gs
     → Goes d answers₀ store₀ gs budget answers store parked held steps used count)
 
 abbrev μ-loop : tie.MeasureT-loop
-μ-loop deck start budget answers₀ store₀ cells₀ bind₀ trail₀ marks₀ names₀ order₀ child₀ held₀ parked₀ steps₀ used₀ count₀ stop₀ answers store cells bind trail marks names order child held parked steps used count stop = budget - steps
+μ-loop deck start budget answers₀ store₀ cells₀ bind₀ trail₀ marks₀ names₀ order₀ child₀ index held₀ parked₀ steps₀ used₀ count₀ stop₀ answers store cells bind trail marks names order child held parked steps used count stop = budget - steps
 
 -- THE PLACES: of a turn the start, of what a step left the turn.
 abbrev begin : tie.At-loop Inv-loop μ-loop → tie.Start Inv-loop μ-loop
-begin c = c .before .before .before .before .before .before .before .before .before .before .before
+begin c = c .before .before .before .before .before .before .before .before .before .before .before .before
 
 abbrev turn : tie.After-take-step Inv-loop μ-loop → tie.At-loop Inv-loop μ-loop
 turn c = c .before .before .before .before .before .before .before .before .before .before .before
@@ -132,7 +132,7 @@ left c =
 
 loop-holds : tie.Need-loop-holds Inv-loop μ-loop
 loop-holds c =
-    let p = c .before .before .before .before .before .before .before .before .before .before .pre in (
+    let p = c .before .before .before .before .before .before .before .before .before .before .before .pre in (
       record { rows = p .1 .0; storeLength = refl; cellsLength = refl },
       record { answersLength = refl; paid = omega arith; few = omega arith; inside = omega arith; running = refl },
       λ d gs o h. goes-first h,
@@ -153,22 +153,22 @@ part-take-step-end c = omega arith
 take-step-requires : tie.Need-take-step-requires Inv-loop μ-loop
 take-step-requires c κs =
     let k = c .before .before .before .before .before .before .before .before .before .before .loop in
-    let p = c .before .before .before .before .before .before .before .before .before .before .before .before .before .before .before .before .before .before .before .before .before .pre in
-    (some-first (known (c .before .before .before .before .before .before .before .before .before .before)) (c .before .before .before .before .before .before .before .before .before .loop-test .taken) _ (p .0 .opens), (k .inv .0 .rows, (omega (arith, k .inv .0 .cellsLength, p .1 .1 .0), omega (arith, k .inv .1 .paid, c .before .before .before .before .before .before .before .before .if1 .left))))
+    let p = c .before .before .before .before .before .before .before .before .before .before .before .before .before .before .before .before .before .before .before .before .before .before .pre in
+    (some-first (known (c .before .before .before .before .before .before .before .before .before .before)) (c .before .before .before .before .before .before .before .before .before .loop-test .taken) _ (p .0 .opens), (k .inv .0 .rows, (omega (arith, k .inv .0 .cellsLength, p .1 .1 .0), omega (arith, k .inv .1 .paid, c .before .before .before .before .before .before .before .before .if1 .left), p .1 .1 .2)))
 
 enum-told : tie.Need-enum-told Inv-loop μ-loop
 enum-told c = search needs
 
 add-end : tie.Need-add-end Inv-loop μ-loop
 add-end c =
-    omega (arith, bare c .whole, same-size (step (c .before .before)), c .before .before .before .before .before .before .before .before .before .before .before .before .before .before .before .before .before .before .before .before .before .before .before .before .before .before .before .before .before .before .before .before .before .before .before .before .before .before .before .before .pre .1 .1 .1)
+    omega (arith, bare c .whole, same-size (step (c .before .before)), c .before .before .before .before .before .before .before .before .before .before .before .before .before .before .before .before .before .before .before .before .before .before .before .before .before .before .before .before .before .before .before .before .before .before .before .before .before .before .before .before .before .pre .1 .1 .1)
 
 sub-length : tie.Need-sub-length Inv-loop μ-loop
 sub-length c = omega (arith, some (step (c .before .before)))
 
 mul-length : tie.Need-mul-length Inv-loop μ-loop
 mul-length c =
-    omega (arith, bare c .whole, same-size (step (c .before .before)), c .before .before .before .before .before .before .before .before .before .before .before .before .before .before .before .before .before .before .before .before .before .before .before .before .before .before .before .before .before .before .before .before .before .before .before .before .before .before .before .before .pre .1 .1 .1)
+    omega (arith, bare c .whole, same-size (step (c .before .before)), c .before .before .before .before .before .before .before .before .before .before .before .before .before .before .before .before .before .before .before .before .before .before .before .before .before .before .before .before .before .before .before .before .before .before .before .before .before .before .before .before .before .pre .1 .1 .1)
 
 slice-read-length : tie.Need-slice-read-length Inv-loop μ-loop
 slice-read-length c = omega (arith, bare (c .before) .whole, some (step (c .before .before .before)))
@@ -186,18 +186,18 @@ copy-mirrored-requires c κs =
 
 add-used : tie.Need-add-used Inv-loop μ-loop
 add-used c =
-    omega (arith, c .before .before .before .before .before .if2 .left, c .before .before .before .before .before .before .before .before .before .before .before .before .before .before .before .before .before .before .before .before .before .before .before .before .before .before .before .before .before .before .before .before .before .before .before .before .loop .inv .1 .inside, c .before .before .before .before .before .before .before .before .before .before .before .before .before .before .before .before .before .before .before .before .before .before .before .before .before .before .before .before .before .before .before .before .before .before .before .before .loop .inv .1 .answersLength, c .before .before .before .before .before .before .before .before .before .before .before .before .before .before .before .before .before .before .before .before .before .before .before .before .before .before .before .before .before .before .before .before .before .before .before .before .before .before .before .before .before .before .before .before .before .before .before .good .1 .1 .1 .0 .0)
+    omega (arith, c .before .before .before .before .before .if2 .left, c .before .before .before .before .before .before .before .before .before .before .before .before .before .before .before .before .before .before .before .before .before .before .before .before .before .before .before .before .before .before .before .before .before .before .before .before .loop .inv .1 .inside, c .before .before .before .before .before .before .before .before .before .before .before .before .before .before .before .before .before .before .before .before .before .before .before .before .before .before .before .before .before .before .before .before .before .before .before .before .loop .inv .1 .answersLength, c .before .before .before .before .before .before .before .before .before .before .before .before .before .before .before .before .before .before .before .before .before .before .before .before .before .before .before .before .before .before .before .before .before .before .before .before .before .before .before .before .before .before .before .before .before .before .before .before .good .1 .1 .1 .0 .0)
 
 add-count : tie.Need-add-count Inv-loop μ-loop
 add-count c =
-    omega (arith, c .before .before .before .before .before .before .before .before .before .before .before .before .before .before .before .before .before .before .before .before .before .before .before .before .before .before .before .before .before .before .before .before .before .before .before .before .loop .inv .1 .few, pays (step (c .before .before .before .before .before .before .before .before .before)), c .before .before .before .before .before .before .before .before .before .before .before .before .before .before .before .before .before .before .before .before .before .before .before .before .before .before .before .before .before .before .before .before .before .before .before .before .before .before .before .before .before .before .before .before .before .before .before .fits .budget)
+    omega (arith, c .before .before .before .before .before .before .before .before .before .before .before .before .before .before .before .before .before .before .before .before .before .before .before .before .before .before .before .before .before .before .before .before .before .before .before .before .loop .inv .1 .few, pays (step (c .before .before .before .before .before .before .before .before .before)), c .before .before .before .before .before .before .before .before .before .before .before .before .before .before .before .before .before .before .before .before .before .before .before .before .before .before .before .before .before .before .before .before .before .before .before .before .before .before .before .before .before .before .before .before .before .before .before .before .fits .budget)
 
 sub-held : tie.Need-sub-held Inv-loop μ-loop
 sub-held c = omega (arith, bare (c .before .before .before .before .before .before .before) .within)
 
 add-steps : tie.Need-add-steps Inv-loop μ-loop
 add-steps c =
-    omega (arith, pays (step (c .before .before .before .before .before .before .before .before .before)), c .before .before .before .before .before .before .before .before .before .before .before .before .before .before .before .before .before .before .before .before .before .before .before .before .before .before .before .before .before .before .before .before .before .before .before .before .before .before .before .before .before .before .before .before .before .before .before .fits .budget)
+    omega (arith, pays (step (c .before .before .before .before .before .before .before .before .before)), c .before .before .before .before .before .before .before .before .before .before .before .before .before .before .before .before .before .before .before .before .before .before .before .before .before .before .before .before .before .before .before .before .before .before .before .before .before .before .before .before .before .before .before .before .before .before .before .before .fits .budget)
 
 loop-less : tie.Need-loop-less Inv-loop μ-loop
 loop-less c = omega (arith, pays (step (c .before .before .before .before .before .before .before .before .before)))
@@ -207,7 +207,7 @@ loop-again c =
     let s = step (c .before .before .before .before .before .before .before .before .before) in
     let x = s .take-step in
     let l = c .before .before .before .before .before .before .before .before .before .before .before .before .before .before .before .before .before .before .before .before .before .before .before .before .before .before .before .before .before .before .before .before .before .before .before .before .loop in
-    let f : l .used + getD (stepped s) (l .parked + l .held - 1) 0 ≤ length (c .before .before .before .before .before .before .before .before .before .before .before .before .before .before .before .before .before .before .before .before .before .before .before .before .before .before .before .before .before .before .before .before .before .before .before .before .before .before .before .before .before .before .before .before .before .before .before .args .answers .now) =
+    let f : l .used + getD (stepped s) (l .parked + l .held - 1) 0 ≤ length (c .before .before .before .before .before .before .before .before .before .before .before .before .before .before .before .before .before .before .before .before .before .before .before .before .before .before .before .before .before .before .before .before .before .before .before .before .before .before .before .before .before .before .before .before .before .before .before .before .args .answers .now) =
     omega (arith, c .before .before .before .before .before .if2 .left, l .inv .1 .inside, l .inv .1 .answersLength) in (
       sizes-kept (l .parked) (x .last .1 .1 .0) (l .inv .0) (x .kept .1 .1 .0) (x .kept .1 .1 .1 .1 .1 .1 .0) (x .ensures .1),
       record {
@@ -217,7 +217,7 @@ loop-again c =
         inside = f;
         running = l .inv .1 .running;
       },
-      λ d gs o h. goes-listed (l .inv .2 d gs o h) (some s) (l .inv .0 .storeLength) (c .before .before .before .before .before .before .before .before .before .before .before .before .before .before .before .before .before .before .before .before .before .before .before .before .before .before .before .before .before .before .before .before .before .before .before .before .before .before .before .before .before .before .before .before .before .before .before .args .deck .now) o _ (x .kept .1 .1 .0) _ (x .ensures .0) (c .before .before .before .before .before .before .before .enum-told .given .1) _ (pays s) f
+      λ d gs o h. goes-listed (l .inv .2 d gs o h) (some s) (l .inv .0 .storeLength) (c .before .before .before .before .before .before .before .before .before .before .before .before .before .before .before .before .before .before .before .before .before .before .before .before .before .before .before .before .before .before .before .before .before .before .before .before .before .before .before .before .before .before .before .before .before .before .before .before .args .deck .now) o _ (x .kept .1 .1 .0) _ (x .ensures .0) (c .before .before .before .before .before .before .before .enum-told .given .1) _ (pays s) f
           (c .before .before .copy-mirrored .ensures),
     )
 
@@ -229,12 +229,12 @@ park-requires c κs = (waits (c .before .before) .1, some (step (c .before .befo
 
 add-parked : tie.Need-add-parked Inv-loop μ-loop
 add-parked c =
-    let p = c .before .before .before .before .before .before .before .before .before .before .before .before .before .before .before .before .before .before .before .before .before .before .before .before .before .before .before .before .before .before .before .before .before .before .before .before .before .before .before .before .before .before .before .before .before .pre .0 in
-    omega (arith, parked (c .before .before) (p .deck) (p .goals) (p .opens) (p .holding) .0, stored-inside (waits (c .before .before .before .before .before) .1 .stored), same-size (step (c .before .before .before .before .before .before .before)), c .before .before .before .before .before .before .before .before .before .before .before .before .before .before .before .before .before .before .before .before .before .before .before .before .before .before .before .before .before .before .before .before .before .before .before .before .before .before .before .before .before .before .before .before .before .pre .1 .1 .1)
+    let p = c .before .before .before .before .before .before .before .before .before .before .before .before .before .before .before .before .before .before .before .before .before .before .before .before .before .before .before .before .before .before .before .before .before .before .before .before .before .before .before .before .before .before .before .before .before .before .pre .0 in
+    omega (arith, parked (c .before .before) (p .deck) (p .goals) (p .opens) (p .holding) .0, stored-inside (waits (c .before .before .before .before .before) .1 .stored), same-size (step (c .before .before .before .before .before .before .before)), c .before .before .before .before .before .before .before .before .before .before .before .before .before .before .before .before .before .before .before .before .before .before .before .before .before .before .before .before .before .before .before .before .before .before .before .before .before .before .before .before .before .before .before .before .before .before .pre .1 .1 .1)
 
 sub-held-2 : tie.Need-sub-held-2 Inv-loop μ-loop
 sub-held-2 c =
-    let p = c .before .before .before .before .before .before .before .before .before .before .before .before .before .before .before .before .before .before .before .before .before .before .before .before .before .before .before .before .before .before .before .before .before .before .before .before .before .before .before .before .before .before .before .before .before .pre .0 in parked (c .before .before) (p .deck) (p .goals) (p .opens) (p .holding) .0
+    let p = c .before .before .before .before .before .before .before .before .before .before .before .before .before .before .before .before .before .before .before .before .before .before .before .before .before .before .before .before .before .before .before .before .before .before .before .before .before .before .before .before .before .before .before .before .before .before .pre .0 in parked (c .before .before) (p .deck) (p .goals) (p .opens) (p .holding) .0
 
 loop-less-2 : tie.Need-loop-less-2 Inv-loop μ-loop
 loop-less-2 c =
@@ -264,7 +264,7 @@ loop-again-3 c =
     let u = further (c .before) in (
       sizes-kept (l .parked) (x .last .1 .1 .0) (l .inv .0) (x .kept .1 .1 .0) (x .kept .1 .1 .1 .1 .1 .1 .0) (x .ensures .1),
       record { answersLength = l .inv .1 .answersLength; paid = u .1; few = omega (arith, l .inv .1 .few, u .0); inside = l .inv .1 .inside; running = l .inv .1 .running },
-      λ d gs o h. goes-on (l .inv .2 d gs o h) (some s) (l .inv .0 .storeLength) (c .before .before .before .before .before .before .before .before .before .before .before .before .before .before .before .before .before .before .before .before .before .before .before .before .before .before .before .before .before .before .before .before .before .before .before .before .before .before .before .before .before .args .deck .now) o _ (x .kept .1 .1 .0) _ (x .ensures .0) _ _ (c .before .h .given .1) .2,
+      λ d gs o h. goes-on (l .inv .2 d gs o h) (some s) (l .inv .0 .storeLength) (c .before .before .before .before .before .before .before .before .before .before .before .before .before .before .before .before .before .before .before .before .before .before .before .before .before .before .before .before .before .before .before .before .before .before .before .before .before .before .before .before .before .before .args .deck .now) o _ (x .kept .1 .1 .0) _ (x .ensures .0) _ _ (c .before .h .given .1) .2,
     )
 
 enum-known-why : tie.Need-enum-known-why Inv-loop μ-loop
@@ -272,7 +272,7 @@ enum-known-why c = search needs
 
 order-goals-requires : tie.Need-order-goals-requires Inv-loop μ-loop
 order-goals-requires c κs =
-    let p = c .before .before .before .before .before .before .before .before .before .before .before .before .before .pre in
+    let p = c .before .before .before .before .before .before .before .before .before .before .before .before .before .before .pre in
     let e = left (c .before) in
     let s = e .1 (p .0 .deck) (p .0 .goals) (p .0 .opens) (p .0 .holding) in
     (record { symbols = p .0 .deck .symbols; level = s .level; stored = s .stored }, omega (arith, e .0 .storeLength, p .1 .1 .1))
@@ -288,27 +288,27 @@ same-length-3 c = left (c .before .before .before .before) .0 .cellsLength
 
 same-length-4 : tie.Need-same-length-4 Inv-loop μ-loop
 same-length-4 c =
-    left (c .before .before .before .before) .0 .rows .bindLength ∙ sym (c .before .before .before .before .before .before .before .before .before .before .before .before .before .before .before .before .pre .1 .0 .bindLength)
+    left (c .before .before .before .before) .0 .rows .bindLength ∙ sym (c .before .before .before .before .before .before .before .before .before .before .before .before .before .before .before .before .before .pre .1 .0 .bindLength)
 
 same-length-5 : tie.Need-same-length-5 Inv-loop μ-loop
 same-length-5 c =
-    left (c .before .before .before .before) .0 .rows .trailLength ∙ sym (c .before .before .before .before .before .before .before .before .before .before .before .before .before .before .before .before .pre .1 .0 .trailLength)
+    left (c .before .before .before .before) .0 .rows .trailLength ∙ sym (c .before .before .before .before .before .before .before .before .before .before .before .before .before .before .before .before .before .pre .1 .0 .trailLength)
 
 same-length-6 : tie.Need-same-length-6 Inv-loop μ-loop
 same-length-6 c =
-    left (c .before .before .before .before) .0 .rows .marksLength ∙ sym (c .before .before .before .before .before .before .before .before .before .before .before .before .before .before .before .before .pre .1 .0 .marksLength)
+    left (c .before .before .before .before) .0 .rows .marksLength ∙ sym (c .before .before .before .before .before .before .before .before .before .before .before .before .before .before .before .before .before .pre .1 .0 .marksLength)
 
 same-length-7 : tie.Need-same-length-7 Inv-loop μ-loop
 same-length-7 c =
-    left (c .before .before .before .before) .0 .rows .namesLength ∙ sym (c .before .before .before .before .before .before .before .before .before .before .before .before .before .before .before .before .pre .1 .0 .namesLength)
+    left (c .before .before .before .before) .0 .rows .namesLength ∙ sym (c .before .before .before .before .before .before .before .before .before .before .before .before .before .before .before .before .before .pre .1 .0 .namesLength)
 
 same-length-8 : tie.Need-same-length-8 Inv-loop μ-loop
 same-length-8 c =
-    left (c .before .before .before .before) .0 .rows .orderLength ∙ sym (c .before .before .before .before .before .before .before .before .before .before .before .before .before .before .before .before .pre .1 .0 .orderLength)
+    left (c .before .before .before .before) .0 .rows .orderLength ∙ sym (c .before .before .before .before .before .before .before .before .before .before .before .before .before .before .before .before .before .pre .1 .0 .orderLength)
 
 same-length-9 : tie.Need-same-length-9 Inv-loop μ-loop
 same-length-9 c =
-    left (c .before .before .before .before) .0 .rows .childLength ∙ sym (c .before .before .before .before .before .before .before .before .before .before .before .before .before .before .before .before .pre .1 .0 .childLength)
+    left (c .before .before .before .before) .0 .rows .childLength ∙ sym (c .before .before .before .before .before .before .before .before .before .before .before .before .before .before .before .before .before .pre .1 .0 .childLength)
 
 returns : tie.Need-returns Inv-loop μ-loop
 returns c =

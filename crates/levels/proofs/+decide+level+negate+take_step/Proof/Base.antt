@@ -29,46 +29,46 @@ use Rattle.goals.proofs.ask.Reads as ask-reads
 use Rattle.levels.proofs.expanded.Reads as expanded-reads
 use Rattle.levels.proofs.finished.Reads as finished-reads
 use Rattle.levels.proofs.settle.Reads as settle-reads
-use Rattle.levels.proofs.wide.Reads as wide-reads
+use Rattle.words.proofs.wide.Reads as wide-reads
 use Rattle.resolvents.proofs.select.select_literal.Reads as select-literal-reads
 use Rattle.words.proofs.copy_mirrored.Reads as copy-mirrored-reads
 
-abbrev pub μ-decide : Measures 9 decide-kinds.ps ℕ
+abbrev pub μ-decide : Measures 10 decide-kinds.ps ℕ
 μ-decide κs a = 4 * a .1 .0
 
-abbrev pub μ-level : Measures 9 level-kinds.ps ℕ
+abbrev pub μ-level : Measures 10 level-kinds.ps ℕ
 μ-level κs a = 4 * a .1 .0 + 3
 
-abbrev pub μ-negate : Measures 9 negate-kinds.ps ℕ
+abbrev pub μ-negate : Measures 10 negate-kinds.ps ℕ
 μ-negate κs a = 4 * a .1 .0 + 1
 
-abbrev pub μ-take-step : Measures 9 take-step-kinds.ps ℕ
+abbrev pub μ-take-step : Measures 10 take-step-kinds.ps ℕ
 μ-take-step κs a = 4 * a .1 .0 + 2
 
-abbrev pub decide-at : ℕ → In 9 decide-kinds.ps
-decide-at t = and 9 decide-kinds.ps (is 9 decide-kinds.ps μ-decide t) decide.Pre
+abbrev pub decide-at : ℕ → In 10 decide-kinds.ps
+decide-at t = and 10 decide-kinds.ps (is 10 decide-kinds.ps μ-decide t) decide.Pre
 
-abbrev pub decide-below : ℕ → In 9 decide-kinds.ps
-decide-below t = and 9 decide-kinds.ps (falls 9 decide-kinds.ps _<_ μ-decide t) decide.Pre
+abbrev pub decide-below : ℕ → In 10 decide-kinds.ps
+decide-below t = and 10 decide-kinds.ps (falls 10 decide-kinds.ps _<_ μ-decide t) decide.Pre
 
-abbrev pub level-at : ℕ → In 9 level-kinds.ps
-level-at t = and 9 level-kinds.ps (is 9 level-kinds.ps μ-level t) level.Pre
+abbrev pub level-at : ℕ → In 10 level-kinds.ps
+level-at t = and 10 level-kinds.ps (is 10 level-kinds.ps μ-level t) level.Pre
 
-abbrev pub level-below : ℕ → In 9 level-kinds.ps
-level-below t = and 9 level-kinds.ps (falls 9 level-kinds.ps _<_ μ-level t) level.Pre
+abbrev pub level-below : ℕ → In 10 level-kinds.ps
+level-below t = and 10 level-kinds.ps (falls 10 level-kinds.ps _<_ μ-level t) level.Pre
 
-abbrev pub negate-at : ℕ → In 9 negate-kinds.ps
-negate-at t = and 9 negate-kinds.ps (is 9 negate-kinds.ps μ-negate t) negate.Pre
+abbrev pub negate-at : ℕ → In 10 negate-kinds.ps
+negate-at t = and 10 negate-kinds.ps (is 10 negate-kinds.ps μ-negate t) negate.Pre
 
-abbrev pub negate-below : ℕ → In 9 negate-kinds.ps
-negate-below t = and 9 negate-kinds.ps (falls 9 negate-kinds.ps _<_ μ-negate t) negate.Pre
+abbrev pub negate-below : ℕ → In 10 negate-kinds.ps
+negate-below t = and 10 negate-kinds.ps (falls 10 negate-kinds.ps _<_ μ-negate t) negate.Pre
 
-abbrev pub take-step-at : ℕ → In 9 take-step-kinds.ps
-take-step-at t = and 9 take-step-kinds.ps (is 9 take-step-kinds.ps μ-take-step t) take-step.Pre
+abbrev pub take-step-at : ℕ → In 10 take-step-kinds.ps
+take-step-at t = and 10 take-step-kinds.ps (is 10 take-step-kinds.ps μ-take-step t) take-step.Pre
 
-abbrev pub take-step-below : ℕ → In 9 take-step-kinds.ps
+abbrev pub take-step-below : ℕ → In 10 take-step-kinds.ps
 take-step-below t =
-    and 9 take-step-kinds.ps (falls 9 take-step-kinds.ps _<_ μ-take-step t) take-step.Pre
+    and 10 take-step-kinds.ps (falls 10 take-step-kinds.ps _<_ μ-take-step t) take-step.Pre
 
 abbrev pub decide-E : ℕ → decide-lts.Claims
 decide-E t = (ask-reads.Asked, ask-reads.Learnt, level-below t, level.Post)
@@ -98,7 +98,7 @@ take-step-E t = (
 )
 
 abbrev pub level-Inv-loop : level-lts.InvT-loop
-level-Inv-loop deck below store₀ start budget used cells₀ bind₀ trail₀ marks₀ names₀ order₀ child₀ held₀ steps₀ parked₀ store cells bind trail marks names order child held steps parked =
+level-Inv-loop deck below store₀ start budget used cells₀ bind₀ trail₀ marks₀ names₀ order₀ child₀ index held₀ steps₀ parked₀ store cells bind trail marks names order child held steps parked =
     (
     (length store ≡ length store₀) × (length cells ≡ length cells₀) × (length bind ≡ length bind₀) × (length trail ≡ length trail₀)
     × (length marks ≡ length marks₀) × (length names ≡ length names₀) × (length order ≡ length order₀) × (length child ≡ length child₀)
@@ -108,5 +108,5 @@ level-Inv-loop deck below store₀ start budget used cells₀ bind₀ trail₀ m
     → Goes d below (length store₀) gs budget used store held steps parked)
 
 abbrev pub level-μ-loop : level-lts.MeasureT-loop
-level-μ-loop deck below store₀ start budget used cells₀ bind₀ trail₀ marks₀ names₀ order₀ child₀ held₀ steps₀ parked₀ store cells bind trail marks names order child held steps parked =
+level-μ-loop deck below store₀ start budget used cells₀ bind₀ trail₀ marks₀ names₀ order₀ child₀ index held₀ steps₀ parked₀ store cells bind trail marks names order child held steps parked =
     budget - steps

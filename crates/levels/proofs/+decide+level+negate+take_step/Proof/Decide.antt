@@ -18,7 +18,7 @@ use Rattle.levels.proofs.+decide+level+negate+take_step.Proof.Base.{dec
 module _ (t : ℕ) where
   pub decide-ask-requires : decide-lts.Need-ask-requires (decide-E t) (decide-at t) decide.Post
   decide-ask-requires c κs =
-      let start = c .before .before .before .before .before .before .before .before .before .before .before in
+      let start = c .before .before .before .before .before .before .before .before .before .before .before .before in
       let k = asked-inside (start .pre .1 .0 .asking) in (start .pre .1 .1 .1 .3, k .0, k .1, k .2, k .3)
 
   pub decide-sub-level : decide-lts.Need-sub-level (decide-E t) (decide-at t) decide.Post
@@ -39,22 +39,22 @@ module _ (t : ℕ) where
   -- The goal is held in the part that the new level gets.
   in-part :
       (c : decide-lts.After-ask (decide-E t) (decide-at t) decide.Post) →
-      let a = c .before .before .before .before .before .before .before .before .before .before .before .before .args in
+      let a = c .before .before .before .before .before .before .before .before .before .before .before .before .before .args in
       (S : List Symbol) (p : ℕ) (ts : Terms) → Asking (a .cells .now) (a .s) (a .e) S p ts
       → Holding S (midOf (a .held) (length (c .ask .last .0) - a .held) (c .ask .last .0)) (c .ask .result) (atomGoal p ts ∷ [])
   in-part c S p ts k =
-      let z = c .before .before .before .before .before .before .before .before .before .before .before .before in
+      let z = c .before .before .before .before .before .before .before .before .before .before .before .before .before in
       rw (c .ask .ensures .0) (asked-held k (z .args .store .now) (c .ask .last .0) (z .args .held) (z .pre .1 .1 .1 .3) (c .ask .ensures .1))
 
   pub decide-level-requires : decide-lts.Need-level-requires (decide-E t) (decide-at t) decide.Post
   decide-level-requires c κs =
       let at-ask = c .before .before .before .before .before .before .before .before .before .before in
-      let start = at-ask .before .before .before .before .before .before .before .before .before .before .before .before in
+      let start = at-ask .before .before .before .before .before .before .before .before .before .before .before .before .before in
       let q = start .pre .1 .0 in (
         omega (arith, start .pre .0, start .pre .1 .1 .1),
         (
           record { deck = q .deck; goals = atomGoal (q .predicate) (q .terms) ∷ []; opens = q .opens; holding = in-part at-ask (q .deck .symbols) (q .predicate) (q .terms) (q .asking) },
-          (start .pre .1 .1 .0, (start .pre .1 .1 .1 .0, start .pre .1 .1 .1 .1)),
+          (start .pre .1 .1 .0, (start .pre .1 .1 .1 .0, start .pre .1 .1 .1 .1, start .pre .1 .1 .1 .4)),
         ),
       )
 
@@ -86,7 +86,7 @@ module _ (t : ℕ) where
   decide-returns c =
       let at-level = c .before .before .before .before .before .before .before .before .before .before .before .before .before .before .before .before in
       let at-ask = at-level .before .before .before .before .before .before .before .before .before .before .before in
-      let start = at-ask .before .before .before .before .before .before .before .before .before .before .before .before in
+      let start = at-ask .before .before .before .before .before .before .before .before .before .before .before .before .before in
       let a = start .args in
       let q = start .pre .1 .0 in
       let s = at-ask .ask in

@@ -21,7 +21,7 @@ use Rattle.levels.proofs.+decide+level+negate+take_step.Proof.Base.{lev
 module _ (t : ℕ) where
   pub level-loop-holds : level-lts.Need-loop-holds (level-E t) (level-at t) level.Post level-Inv-loop level-μ-loop
   level-loop-holds c =
-      let start = c .before .before .before .before .before .before .before .before .before in
+      let start = c .before .before .before .before .before .before .before .before .before .before in
       let a = start .args in
       let b = start .pre .1 .1 .1 .1 in (
         (refl, refl, refl, refl, refl, refl, refl, refl),
@@ -65,13 +65,13 @@ module _ (t : ℕ) where
       let at-if1 = c .before .before .before .before .before .before .before .before in
       let at-loop-test = at-if1 .before in
       let at-loop = at-loop-test .before in
-      let start = at-loop .before .before .before .before .before .before .before .before .before .before in
+      let start = at-loop .before .before .before .before .before .before .before .before .before .before .before in
       let q = start .pre .1 .0 in
       let l = at-loop .loop .inv in (
         omega (arith, start .pre .0),
         (
           some-first (l .3 (q .deck) (q .goals) (q .opens) (q .holding)) (at-loop-test .loop-test .taken) (start .args .deck .now) (q .opens),
-          (l .1, (omega (arith, start .pre .1 .1 .1, l .0 .1), omega (arith, at-if1 .if1 .left, l .2))),
+          (l .1, (omega (arith, start .pre .1 .1 .1, l .0 .1), omega (arith, at-if1 .if1 .left, l .2), start .pre .1 .1 .1 .2)),
         ),
       )
 
@@ -82,7 +82,7 @@ module _ (t : ℕ) where
   module _ (c : level-lts.After-take-step (level-E t) (level-at t) level.Post level-Inv-loop level-μ-loop) where
     -- What the step came to, whatever the first goal.
     took :
-        let a = c .before .before .before .before .before .before .before .before .before .before .before .before .before .before .before .before .before .before .before .before .before .args in
+        let a = c .before .before .before .before .before .before .before .before .before .before .before .before .before .before .before .before .before .before .before .before .before .before .args in
         let l = c .before .before .before .before .before .before .before .before .before .before .before .loop in
         (r : Turn) → c .take-step .result ≡ r → (d : Deck) → openDeck (a .deck .now) ≡ accepted d
         → (g : Goal) (hs : List Goal) → Holding (d .symbols) (l .store) (l .held) (g ∷ hs)
@@ -90,34 +90,34 @@ module _ (t : ℕ) where
     took r e d o g hs h = rw e at (c .take-step .ensures .0 d g hs o h)
 
     pays :
-        let a = c .before .before .before .before .before .before .before .before .before .before .before .before .before .before .before .before .before .before .before .before .before .args in
+        let a = c .before .before .before .before .before .before .before .before .before .before .before .before .before .before .before .before .before .before .before .before .before .before .args in
         let l = c .before .before .before .before .before .before .before .before .before .before .before .loop in
         l .steps < a .budget
     pays = omega (arith, c .before .before .before .before .before .before .before .before .before .if1 .left, c .before .before .before .before .before .before .before .before .before .before .before .loop .inv .2)
 
     parked-at :
-        let a = c .before .before .before .before .before .before .before .before .before .before .before .before .before .before .before .before .before .before .before .before .before .args in
+        let a = c .before .before .before .before .before .before .before .before .before .before .before .before .before .before .before .before .before .before .before .before .before .before .args in
         let l = c .before .before .before .before .before .before .before .before .before .before .before .loop in
         let store = c .take-step .last .1 .1 .0 in
         (m : Mark) (k : ℕ) → c .take-step .result ≡ Park m k → (l .held ≤ length store) × (getD store (l .held - 1) 0 ≤ l .held) × (l .steps < k) × (k ≤ a .budget)
     parked-at m k e =
         let test = c .before .before .before .before .before .before .before .before .before .before in
-        let q = test .before .before .before .before .before .before .before .before .before .before .before .pre .1 .0 in
+        let q = test .before .before .before .before .before .before .before .before .before .before .before .before .pre .1 .0 in
         parked-room (test .before .loop .inv .3 (q .deck) (q .goals) (q .opens) (q .holding)) (test .loop-test .taken) (c .take-step .last .1 .1 .0) m k
         (c .take-step .kept .1 .1 .0) (took (Park m k) e (q .deck) (q .opens))
 
     on-at :
-        let a = c .before .before .before .before .before .before .before .before .before .before .before .before .before .before .before .before .before .before .before .before .before .args in
+        let a = c .before .before .before .before .before .before .before .before .before .before .before .before .before .before .before .before .before .before .before .before .before .before .args in
         let l = c .before .before .before .before .before .before .before .before .before .before .before .loop in
         (h k : ℕ) → c .take-step .result ≡ More h k → (l .steps < k) × (k ≤ a .budget)
     on-at h k e =
         let test = c .before .before .before .before .before .before .before .before .before .before in
-        let q = test .before .before .before .before .before .before .before .before .before .before .before .pre .1 .0 in
+        let q = test .before .before .before .before .before .before .before .before .before .before .before .before .pre .1 .0 in
         on-later (test .before .loop .inv .3 (q .deck) (q .goals) (q .opens) (q .holding)) (test .loop-test .taken) (c .take-step .last .1 .1 .0) h k
         (took (More h k) e (q .deck) (q .opens))
 
     lengths :
-        let a = c .before .before .before .before .before .before .before .before .before .before .before .before .before .before .before .before .before .before .before .before .before .args in
+        let a = c .before .before .before .before .before .before .before .before .before .before .before .before .before .before .before .before .before .before .before .before .before .before .args in
         let l = c .take-step .last .1 .1 in
         let m = l .1 .1 .1 .1 in
         (length (l .0) ≡ length (a .store .now)) × (length (m .0) ≡ length (a .cells .now)) × (length (m .1 .0) ≡ length (a .bind .now))
@@ -137,10 +137,10 @@ module _ (t : ℕ) where
           m .1 .1 .1 .1 .1 .1 .0 ∙ n .7,
         )
 
-  pub level-add-t43 : level-lts.Need-add-t43 (level-E t) (level-at t) level.Post level-Inv-loop level-μ-loop
-  level-add-t43 c =
+  pub level-add-t44 : level-lts.Need-add-t44 (level-E t) (level-at t) level.Post level-Inv-loop level-μ-loop
+  level-add-t44 c =
       let at-take-step = c .before .before .before .before .before .before .before .before .before .before .before .before .before .before .before .before .before .before in
-      let start = at-take-step .before .before .before .before .before .before .before .before .before .before .before .before .before .before .before .before .before .before .before .before .before in
+      let start = at-take-step .before .before .before .before .before .before .before .before .before .before .before .before .before .before .before .before .before .before .before .before .before .before in
       omega (arith, start .fits .budget, pays at-take-step)
 
   pub level-same-length-9 : level-lts.Need-same-length-9 (level-E t) (level-at t) level.Post level-Inv-loop level-μ-loop
@@ -186,7 +186,7 @@ module _ (t : ℕ) where
   level-mul-wide c =
       let at-k = c .before in
       let at-take-step = at-k .before .before .before .before .before .before .before .before .before .before .before .before .before .before .before .before .before .before in
-      let start = at-take-step .before .before .before .before .before .before .before .before .before .before .before .before .before .before .before .before .before .before .before .before .before in
+      let start = at-take-step .before .before .before .before .before .before .before .before .before .before .before .before .before .before .before .before .before .before .before .before .before .before in
       omega (arith, parked-at at-take-step _ _ (at-k .k .given .1), lengths at-take-step .0, start .good .1 .1 .0)
 
   pub level-slice-read-wide : level-lts.Need-slice-read-wide (level-E t) (level-at t) level.Post level-Inv-loop level-μ-loop

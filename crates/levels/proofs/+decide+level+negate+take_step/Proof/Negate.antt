@@ -14,12 +14,12 @@ use native.Mathlib.Omega.{arith}
 use Rattle.levels.proofs.+decide+level+negate+take_step.Proof.Base.{negate-at, negate-E}
 
 module _ (t : ℕ) where
-  pub negate-add-t19 : negate-lts.Need-add-t19 (negate-E t) (negate-at t) negate.Post
-  negate-add-t19 c = search needs
+  pub negate-add-t20 : negate-lts.Need-add-t20 (negate-E t) (negate-at t) negate.Post
+  negate-add-t20 c = search needs
 
   pub negate-returns : negate-lts.Need-returns (negate-E t) (negate-at t) negate.Post
   negate-returns c =
-      let start = c .before .before .before .before .before .before .before .before .before .before in
+      let start = c .before .before .before .before .before .before .before .before .before .before .before in
       let a = start .args in (
         λ d g gs before p ts after n. turned-deep d (a .below) (a .budget) (a .steps) (start .pre .1 .1 .1 .1) (n .negates .holding) (c .if1 .taken) (n .negates .selects),
         start .pre .1 .1 .0,
@@ -33,13 +33,13 @@ module _ (t : ℕ) where
 
   pub negate-add-if2 : negate-lts.Need-add-if2 (negate-E t) (negate-at t) negate.Post
   negate-add-if2 c =
-      let start = c .before .before .before .before .before .before .before .before .before .before in
+      let start = c .before .before .before .before .before .before .before .before .before .before .before in
       omega (arith, negates-inside (start .pre .1 .0 .is .negates), start .fits .held)
 
   pub negate-returns-2 : negate-lts.Need-returns-2 (negate-E t) (negate-at t) negate.Post
   negate-returns-2 c =
       let at-if1 = c .before in
-      let start = at-if1 .before .before .before .before .before .before .before .before .before .before in
+      let start = at-if1 .before .before .before .before .before .before .before .before .before .before .before in
       let a = start .args in (
         λ d g gs before p ts after n.
             turned-crowded d (a .below) (a .budget) (a .steps) (start .pre .1 .1 .1 .1) (n .negates .holding) (a .below - 1) (omega (arith, at-if1 .if1 .left)) (n .negates .selects)
@@ -54,14 +54,14 @@ module _ (t : ℕ) where
   negate-decide-requires c κs =
       let at-if2 = c .before .before .before .before .before .before .before .before in
       let at-if1 = at-if2 .before in
-      let start = at-if1 .before .before .before .before .before .before .before .before .before .before in
+      let start = at-if1 .before .before .before .before .before .before .before .before .before .before .before in
       let q = start .pre .1 .0 in (
         omega (arith, start .pre .0),
         (
           record { deck = q .deck; predicate = q .predicate; terms = q .terms; opens = q .is .opens; asking = to-ask (q .is) (omega (arith, q .is .negates .holding .wellFormed .0 .short, start .pre .1 .1 .1)) },
           (
             start .pre .1 .1 .0,
-            (start .pre .1 .1 .1 .0, omega (arith, start .pre .1 .1 .1 .1), omega (arith, at-if1 .if1 .left), omega (arith, at-if2 .if2 .left, negates-inside (q .is .negates))),
+            (start .pre .1 .1 .1 .0, omega (arith, start .pre .1 .1 .1 .1), omega (arith, at-if1 .if1 .left), omega (arith, at-if2 .if2 .left, negates-inside (q .is .negates)), start .pre .1 .1 .1 .2),
           ),
         ),
       )
@@ -69,7 +69,7 @@ module _ (t : ℕ) where
   pub negate-settle-requires : negate-lts.Need-settle-requires (negate-E t) (negate-at t) negate.Post
   negate-settle-requires c κs =
       let at-decide = c .before .before .before .before .before .before .before .before .before .before .before .before .before .before .before .before .before in
-      let start = at-decide .before .before .before .before .before .before .before .before .before .before .before .before .before .before .before .before .before .before .before .before in
+      let start = at-decide .before .before .before .before .before .before .before .before .before .before .before .before .before .before .before .before .before .before .before .before .before in
       let q = start .pre .1 .0 in
       let r = at-decide .decide in
       record {
@@ -113,7 +113,7 @@ module _ (t : ℕ) where
       let at-decide = at-settle .before .before .before .before .before .before .before .before .before .before .before .before .before .before .before .before .before .before in
       let at-if2 = at-decide .before .before .before .before .before .before .before .before .before in
       let at-if1 = at-if2 .before in
-      let start = at-if1 .before .before .before .before .before .before .before .before .before .before in
+      let start = at-if1 .before .before .before .before .before .before .before .before .before .before .before in
       let a = start .args in
       let r = at-decide .decide in
       let store = r .last .1 .1 .0 in

@@ -1,16 +1,16 @@
--- `derive::clause_cells` meets its contract: the cells between the two places that the deck gives are those of the clause. Assumes nothing.
+-- `clause_cells` meets its contract: the cells between the two places that the deck gives are those of the clause. Assumes nothing.
 use mathlib.Core.Path.{_≡_, ap, _∙_}
 use native.Mathlib.Omega.{arith}
 use denote.Ref.{now}
-use Rattle.rules.specs.Syntax.{Clause, Deck}
+use Rattle.rules.specs.Syntax.{Deck}
 use Rattle.rules.specs.Refusals.{accepted}
 use Rattle.rules.specs.Decks.{writeClause, openDeck}
 use Rattle.rules.proofs.DeckLaws.{steps-open}
-use Rattle.derivation.proofs.ClauseLaws.{ClauseCells, clause-cells}
-use Rattle.derivation.proofs.clause_cells.Statement.{statement}
-use Rattle.derivation.proofs.clause_cells.Tie as tie
-use Rattle.derivation.proofs.clause_cells.Reads as reads
-use Rattle.derivation.proofs.clause_cells.Lts as lts
+use Rattle.clauses.proofs.ClauseLaws.{ClauseCells, clause-cells}
+use Rattle.clauses.proofs.clause_cells.Statement.{statement}
+use Rattle.clauses.proofs.clause_cells.Tie as tie
+use Rattle.clauses.proofs.clause_cells.Reads as reads
+use Rattle.clauses.proofs.clause_cells.Lts as lts
 use Rattle.deck.proofs.parts.cells.Reads as cells-reads
 use Rattle.deck.proofs.parts.clause_end.Reads as clause-end-reads
 use Rattle.deck.proofs.parts.clause_start.Reads as clause-start-reads

@@ -1,21 +1,15 @@
--- Clause i of an opened deck in the deck's cells, and the selected literal in a goal's cells. Assumes nothing.
+-- Clause i of an opened deck in the deck's cells. Assumes nothing.
 use Prim.Native.Nat.{ℕ, zero, suc, _+_, _-_, _≤_, _<_}
-use mathlib.Core.Path.{_≡_, refl, ap, ap₂, sym, _∙_, subst}
-use mathlib.Core.List.{List, [], _∷_, _++_, append-assoc, append-nil}
+use mathlib.Core.Path.{_≡_, refl, ap, sym, _∙_, subst}
+use mathlib.Core.List.{List, [], _∷_, _++_, append-nil}
 use native.Mathlib.Omega.{arith}
-use native.Mathlib.Nat.{add-zero}
 use lib.ListN.{length, getD, take, drop, length-append, length-drop}
-use lib.Seq.{take-at, drop-at, drop-drop, length-take-le, getD-take, getD-drop, getD-at}
-use Rattle.rules.specs.Terms.{Terms, sizes}
-use Rattle.rules.specs.Syntax.{Symbol, Literal, pos, Clause, Deck, Goal}
-use Rattle.rules.specs.Cells.{writeTerms, writeLiterals}
+use lib.Seq.{take-at, drop-at, drop-drop}
+use Rattle.rules.specs.Syntax.{Symbol, Clause, Deck}
 use Rattle.rules.specs.Refusals.{accepted}
 use Rattle.rules.specs.Decks.{writeClause, clausesCells, clauseStarts, clauseWords, termCells, openDeck}
-use Rattle.rules.specs.Goals.{goalCells}
 use Rattle.rules.specs.WellFormed.{All, WfClause}
-use Rattle.rules.proofs.CellLaws.{literalSizes, row-length, terms-length, literals-length, write-append, writeLiterals-append}
 use Rattle.rules.proofs.DeckLaws.{starts-length, clauses-part, cells-part, opened-written}
-use Rattle.resolvents.specs.Deriving.{Calls}
 
 -- Clause i, whose cells are those of the row from a place up to another.
 pub record ClauseCells (S : List Symbol) (clauses : List Clause) (row : List ℕ) (i from to : ℕ) : Type 0 where
@@ -89,6 +83,14 @@ clause-cells ws d row i from to e h er ef et =
     let all : 0 + length (clausesCells (d .clauses)) ≡ length (clausesCells (d .clauses)) = omega arith in
     rw (er, ef, et, starts, cells, ← all) (clause-in (d .symbols) 0 (d .clauses) (clausesCells (d .clauses)) i (o .1 .clauses) k (omega arith) refl)
 
+-- A clause of the list is well formed as all are.
+pub clause-at : (S : List Symbol) (cs : List Clause) (i : ℕ) (c : Clause) → All (WfClause S) cs → drop i cs ≡ c ∷ drop (i + 1) cs → WfClause S c
+clause-at S [] i c w e = absurd (omega (arith, ap length e, length-drop {A = Clause} i []))
+clause-at S (c′ ∷ cs) zero c w e = let same : c′ ≡ c = cc in subst (WfClause S) same (w .0)
+clause-at S (c′ ∷ cs) (suc i) c w e =
+    let k : suc i + 1 ≡ suc (i + 1) = omega arith in
+    clause-at S cs i c (w .1) (rw k at e)
+
 -- There are as many clauses as starts, and so there is a clause i.
 pub clause-count : (ws : List ℕ) (d : Deck) → openDeck ws ≡ accepted d → length (clauseWords ws) ≡ length (d .clauses)
 clause-count ws d e = ap (λ (l : List ℕ). length (clauseWords l)) (opened-written ws d e .0) ∙ ap length (clauses-part d) ∙ starts-length 0 (d .clauses)
@@ -105,18 +107,3 @@ clause-of ws d i e h = clause-cells ws d (termCells ws) i _ _ e h refl refl refl
 pub first-cell : (l : List ℕ) (c : Clause) → l ≡ writeClause c → (0 < length l) × (getD l 0 0 ≡ c .predicate)
 unfolding writeClause
 first-cell l c e = rw e (omega arith, refl)
-
--- The cell at which the selected literal starts is its predicate.
-pub literal-cell :
-    {ar cells : List ℕ} {size answers s e n : ℕ} {S : List Symbol} {g : Goal} {before : List Literal} {p : ℕ} {ts : Terms} {after : List Literal}
-    → Calls ar cells size answers s e n S g before p ts after → (s < size) × (getD cells s 0 ≡ p)
-unfolding goalCells
-literal-cell {cells = cells} {size = size} {s = s} {g = g} {before = before} {p = p} {ts = ts} {after = after} r =
-    let front = writeTerms (g .answers) [] ++ writeLiterals before in
-    let rest = writeTerms ts (writeLiterals after) in
-    let whole : take size cells ≡ front ++ (p ∷ rest) =
-    r .goal .goal ∙ rw (r .literals, write-append (g .answers) (writeLiterals (before ++ (pos p ts ∷ after))), writeLiterals-append before (pos p ts ∷ after)) (simp append-assoc) in
-    let long : length front ≡ s =
-    length-append (writeTerms (g .answers) []) (writeLiterals before) ∙ omega (arith, terms-length (g .answers) [], literals-length before, r .span .start) in
-    let h : s < size = omega (arith, ap length whole, length-take-le size cells (r .inside), length-append front (p ∷ rest)) in
-    (h, sym (getD-take size cells s 0 h) ∙ ap (λ (l : List ℕ). getD l s 0) whole ∙ getD-at front p rest 0 s long)
