@@ -1,0 +1,61 @@
+//! The form of a listing, and texts that are just not of that form.
+
+use program::shape::is_output;
+
+#[test]
+fn listings_and_refusals() {
+    let good = [
+        "refused 1\n",
+        "refused 7\n",
+        "no\nfinished 1 0 0 0\n",
+        "all\nfinished 8 1 0 0\ns1\n",
+        "all\nfinished 3 2 0 0\ntrue\ntrue\n",
+        "all\nfinished 100000 1 0 0\nv0 s0(s1,s0(v1,v10)) s100\n",
+        "open\nfinished 3 1 0 1\ns0\n",
+        "open\nbudget 100000 0 1 0\n",
+        "open\nstore 0 0 1 2\n",
+    ];
+    for text in good {
+        assert!(is_output(text.as_bytes()), "{text:?}");
+    }
+}
+
+#[test]
+fn other_texts() {
+    let bad = [
+        "",
+        "\n",
+        "refused 0\n",
+        "refused 8\n",
+        "refused 1",
+        "refused 1\n\n",
+        "refused 01\n",
+        "no\n",
+        "all\nfinished 1 0 0 0\n",
+        "no\nfinished 1 1 0 0\ntrue\n",
+        "no\nbudget 100000 0 1 0\n",
+        "no\nfinished 1 0 0 1\n",
+        "open\nfinished 1 0 0 0\n",
+        "open\nfinished 1 0 1 1\n",
+        "open\nbudget 99999 0 1 0\n",
+        "open\nstore 100000 0 1 0\n",
+        "open\nbudget 100000 0 0 0\n",
+        "all\nfinished 08 1 0 0\ns1\n",
+        "all\nfinished 8 1 0 0 \ns1\n",
+        "all\nfinished 8 1 0 0\n",
+        "all\nfinished 8 1 0 0\ns1\ns1\n",
+        "all\nfinished 8 1 0 0\n\n",
+        "all\nfinished 8 1 0 0\ns01\n",
+        "all\nfinished 8 1 0 0\ns1 \n",
+        "all\nfinished 8 1 0 0\ns1()\n",
+        "all\nfinished 8 1 0 0\ns1(s0\n",
+        "all\nfinished 8 1 0 0\ns1(s0(s0)\n",
+        "all\nfinished 8 1 0 0\ns1(s0 s0)\n",
+        "all\nfinished 8 1 0 0\nv0(s0)\n",
+        "all\nfinished 8 1 0 0\ntrue s0\n",
+    ];
+    for text in bad {
+        assert!(!is_output(text.as_bytes()), "{text:?}");
+    }
+    assert!(!is_output(&[255, 10]));
+}
