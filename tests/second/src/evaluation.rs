@@ -3,6 +3,7 @@
 use crate::deck::Deck;
 use crate::goals::{Goal, Mark, Resolvent, MOST_GOAL_WORDS};
 use crate::query::Query;
+use std::cell::Cell;
 
 #[derive(Clone, Copy, Debug, PartialEq, Eq)]
 pub enum Stop {
@@ -46,6 +47,8 @@ pub struct Watch {
     pub parked_deeper: [u32; 5],
     /// Inner levels closed: succeeded, finished clean, finished with parked.
     pub closed: [u32; 3],
+    /// Clauses tried: those about the selected literal's predicate, over all steps.
+    pub tried: Cell<u64>,
 }
 
 struct Level {
@@ -183,6 +186,7 @@ impl Evaluation<'_> {
         let mut words = 0;
         for number in &self.deck.about[predicate] {
             let clause = &self.deck.clauses[*number];
+            self.watch.tried.set(self.watch.tried.get() + 1);
             let Some(resolvent) = Resolvent::new(goal, at, clause) else {
                 continue;
             };
