@@ -29,15 +29,17 @@ fn predicate(deck: &[u16], i: usize) -> u16
     clause_cells(deck, i)[0]
 }
 
-// Fills the index: at p the first clause about the predicate p, at 4096 + i the next one about the predicate of clause i.
+// Fills the index, from the last clause to the first: at p the first clause about the predicate p, at 4096 + i the next one about the predicate of clause i.
 pub fn fill_index(deck: &[u16], index: &mut [u16])
     requires { ⌜ Opens (now deck) ⌝ }
     requires { ⌜ Blank (now index) ⌝ }
     ensures { λ _. ⌜ Indexed (now (deck .entry)) (now (index .exit)) ⌝ }
 {
-    let mut i = parts::clause_count(deck);
-    while 0 < i {
-        i -= 1;
+    let count = parts::clause_count(deck);
+    let mut done = 0;
+    while done < count {
+        done += 1;
+        let i = count - done;
         let p = predicate(deck, i) as usize;
         index[4096 + i] = index[p];
         index[p] = i as u16;
