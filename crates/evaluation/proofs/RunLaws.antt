@@ -17,6 +17,7 @@ use Rattle.rules.proofs.GoalLaws.{goals-length, unmarked-words}
 use Rattle.rules.proofs.DeckLaws.{steps-open, query-reads}
 use Rattle.rules.proofs.Demand3.{Accepted, run-accepted}
 use Rattle.deck.specs.declared.Refusal as declared
+use Rattle.deck.specs.declared.Checked as declared-checks
 use Rattle.deck.specs.declared.Refusal.the-variants as kinds
 use Rattle.deck.specs.declared.Checked.the-variants as answer
 use Rattle.deck.specs.Answers.{numberOf}
@@ -25,7 +26,7 @@ use Rattle.report.specs.declared.Report.{Report}
 use Rattle.resolvents.specs.Deriving.{Rows}
 use Rattle.clauses.specs.Clauses.{Blank}
 use Rattle.top_level.specs.Top.{Queries, Topped}
-use Rattle.evaluation.specs.Results.{refusalFor, resultOf, slices}
+use Rattle.evaluation.specs.Results.{checkSizes, firstRefusal, refusalFor, resultOf, slices}
 use Rattle.evaluation.specs.declared.Ran.the-variants as kind
 
 -- THE NUMBERS OF REFUSALS determine them.
@@ -91,6 +92,33 @@ unfolding require
 required n true u e = refl
 required n false u e = absurd (let z : _≡_ {A = ℕ} 0 1 = cc in omega arith)
 
+-- Two requirements give the same number, whatever they let through.
+both : {A : Type 0} (b c : Bool) (a : A)
+    → checkedNumber (andThen (require badStore b) (λ _. require badScratch c)) ≡ checkedNumber (andThen (require badStore b) (λ _. andThen (require badScratch c) (λ _. accepted a)))
+unfolding andThen require
+both true true a = refl
+both true false a = refl
+both false c a = refl
+
+-- The sizes that are refused, and those that are let through.
+module _ (storeSize scratchSize : ℕ) where
+  pub store-small : storeSize < 1024 → 8 ≡ checkedNumber (checkSizes storeSize scratchSize)
+  unfolding andThen require
+  store-small h = rw (lt-leb 1024 storeSize h)
+
+  pub store-large : 65535 < storeSize → 8 ≡ checkedNumber (checkSizes storeSize scratchSize)
+  unfolding andThen require
+  store-large h = rw (le-leb 1024 storeSize (omega arith), lt-leb storeSize 65535 h)
+
+  module _ (least : 1024 ≤ storeSize) (most : storeSize ≤ 65535) where
+    pub scratch-small : scratchSize < 8192 → 9 ≡ checkedNumber (checkSizes storeSize scratchSize)
+    unfolding andThen require
+    scratch-small h = rw (le-leb 1024 storeSize least, le-leb storeSize 65535 most, lt-leb 8192 scratchSize h)
+
+    pub sizes-fit : 8192 ≤ scratchSize → 0 ≡ checkedNumber (checkSizes storeSize scratchSize)
+    unfolding andThen require
+    sizes-fit h = rw (le-leb 1024 storeSize least, le-leb storeSize 65535 most, le-leb 8192 scratchSize h)
+
 module _ (deckWords queryWords : List ℕ) (total answerRoom storeSize scratchSize : ℕ) where
   pub run-refused : (n : Refusal) → checkQuery deckWords queryWords ≡ refused n → run deckWords queryWords total answerRoom storeSize scratchSize ≡ refused n
   unfolding run checkQuery
@@ -108,25 +136,18 @@ module _ (deckWords queryWords : List ℕ) (total answerRoom storeSize scratchSi
     unfolding run andThen
     sizes = rw (opened .1, opened .2)
 
-    pub store-small : storeSize < 1024 → run deckWords queryWords total answerRoom storeSize scratchSize ≡ refused badStore
-    unfolding andThen require
-    store-small h = sizes ∙ rw (lt-leb 1024 storeSize h)
+    sizes-number : checkedNumber (checkSizes storeSize scratchSize) ≡ checkedNumber (run deckWords queryWords total answerRoom storeSize scratchSize)
+    sizes-number =
+        both (leb 1024 storeSize && leb storeSize 65535) (leb 8192 scratchSize) (evaluate (opened .0) answerRoom storeSize (firstGoal q ∷ []) [] total)
+        ∙ ap (λ (c : Checked Outcome). checkedNumber c) (sym sizes)
 
-    pub store-large : 65535 < storeSize → run deckWords queryWords total answerRoom storeSize scratchSize ≡ refused badStore
-    unfolding andThen require
-    store-large h = sizes ∙ rw (le-leb 1024 storeSize (omega arith), lt-leb storeSize 65535 h)
-
-    module _ (least : 1024 ≤ storeSize) (most : storeSize ≤ 65535) where
-      pub scratch-small : scratchSize < 8192 → run deckWords queryWords total answerRoom storeSize scratchSize ≡ refused badScratch
-      unfolding andThen require
-      scratch-small h = sizes ∙ rw (le-leb 1024 storeSize least, le-leb storeSize 65535 most, lt-leb 8192 scratchSize h)
-
-      pub sizes-fit : 8192 ≤ scratchSize → checkedNumber (run deckWords queryWords total answerRoom storeSize scratchSize) ≡ 0
-      unfolding andThen require
-      sizes-fit h =
-          let r : run deckWords queryWords total answerRoom storeSize scratchSize ≡ accepted (evaluate (opened .0) answerRoom storeSize (firstGoal q ∷ []) [] total) =
-          sizes ∙ rw (le-leb 1024 storeSize least, le-leb storeSize 65535 most, le-leb 8192 scratchSize h) in
-          ap (λ (c : Checked Outcome). checkedNumber c) r
+  pub refusal-number : (words buffers : declared-checks.Checked) → numberOf words ≡ checkedNumber (checkQuery deckWords queryWords)
+      → numberOf buffers ≡ checkedNumber (checkSizes storeSize scratchSize)
+      → numberOf (firstRefusal words buffers) ≡ checkedNumber (run deckWords queryWords total answerRoom storeSize scratchSize)
+  refusal-number answer.Accepted buffers e f = let q = number-accepts (checkQuery deckWords queryWords) e in f ∙ sizes-number (q .0) (q .1)
+  refusal-number (answer.Refused why) buffers e f =
+      let r = number-refuses why (checkQuery deckWords queryWords) e in
+      e ∙ ap (λ (x : Checked (List Literal)). checkedNumber x) r ∙ ap (λ (x : Checked Outcome). checkedNumber x) (sym (run-refused _ r))
 
   -- AN ACCEPTED RUN: what it evaluates, and the sizes.
   pub record Accepts : Type 0 where

@@ -5,7 +5,7 @@ ghost use lib.ListN.{length};
 ghost use Rattle.rules.specs.Refusals.{checkedNumber};
 ghost use Rattle.rules.specs.Run.{run};
 ghost use Rattle.deck.specs.Answers.{numberOf};
-ghost use Rattle.evaluation.specs.Results.{resultOf, slices};
+ghost use Rattle.evaluation.specs.Results.{checkSizes, firstRefusal, resultOf, slices};
 use deck::Checked;
 use deck::Refusal;
 use report::Report;
@@ -20,20 +20,34 @@ pub enum Ran {
 fn refusal(deck: &[u16], query: &[u16], store: usize, scratch: usize) -> Checked
     ensures { λ r. ⌜ ((budget answerRoom : ℕ) → numberOf r ≡ checkedNumber (run (now (deck .entry)) (now (query .entry)) budget answerRoom store scratch)) ⌝ }
 {
-    match deck::check(deck, query) {
+    let words = deck::check(deck, query);
+    let buffers = sizes(store, scratch);
+    first_refusal(words, buffers)
+}
+
+// The sizes of the store and the scratch.
+fn sizes(store: usize, scratch: usize) -> Checked
+    ensures { λ r. ⌜ numberOf r ≡ checkedNumber (checkSizes store scratch) ⌝ }
+{
+    if store < 1024 {
+        return Checked::Refused(Refusal::Store);
+    }
+    if 65535 < store {
+        return Checked::Refused(Refusal::Store);
+    }
+    if scratch < 8192 {
+        return Checked::Refused(Refusal::Scratch);
+    }
+    Checked::Accepted
+}
+
+// Of two checks, the first that refuses.
+fn first_refusal(first: Checked, second: Checked) -> Checked
+    ensures { λ r. ⌜ r ≡ firstRefusal first second ⌝ }
+{
+    match first {
         Checked::Refused(why) => Checked::Refused(why),
-        Checked::Accepted => {
-            if store < 1024 {
-                return Checked::Refused(Refusal::Store);
-            }
-            if 65535 < store {
-                return Checked::Refused(Refusal::Store);
-            }
-            if scratch < 8192 {
-                return Checked::Refused(Refusal::Scratch);
-            }
-            Checked::Accepted
-        }
+        Checked::Accepted => second,
     }
 }
 
