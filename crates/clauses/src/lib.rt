@@ -1,8 +1,7 @@
 // The clauses of an opened deck: their cells, and which come one after another about one predicate.
 ghost use mathlib.Core.Path.{_≡_};
 ghost use Prim.Native.Nat.{_+_, _<_};
-ghost use mathlib.Core.List.{_∷_};
-ghost use lib.ListN.{length, getD, drop};
+ghost use lib.ListN.{length, getD};
 ghost use Rattle.rules.specs.Syntax.{Clause, Deck};
 ghost use Rattle.rules.specs.Refusals.{accepted};
 ghost use Rattle.rules.specs.Decks.{writeClause, clauseWords, openDeck};
@@ -13,12 +12,9 @@ use words::wide;
 // The cells of clause i.
 pub fn clause_cells(deck: &[u16], i: usize) -> &[u16]
     requires { ⌜ Opens (now deck) × (i < length (clauseWords (now deck))) ⌝ }
-    ensures { λ r. ⌜ ((d : Deck) (c : Clause) → openDeck (now (deck .entry)) ≡ accepted d → drop i (d .clauses) ≡ c ∷ drop (i + 1) (d .clauses) → now r ≡ writeClause c) ⌝ }
+    ensures { λ r. ⌜ ((d : Deck) (c : Clause) → openDeck (now (deck .entry)) ≡ accepted d → ClauseAt (d .clauses) i c → now r ≡ writeClause c) ⌝ }
 {
-    let cells = parts::cells(deck);
-    let from = parts::clause_start(deck, i);
-    let to = parts::clause_end(deck, i);
-    &cells[from..to]
+    parts::clause(deck, i)
 }
 
 // The predicate that clause i is about.

@@ -1,4 +1,4 @@
-// The evaluation on words, and the public run.
+// The public run: its refusals, and an accepted run from the first goal to the report.
 ghost use mathlib.Core.Path.{_≡_};
 ghost use Prim.Native.Nat.{ℕ, _≤_};
 ghost use lib.ListN.{length};

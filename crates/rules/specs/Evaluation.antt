@@ -136,7 +136,8 @@ pub data Ending : Type 0 where
 pub data Ended : Type 0 where
   ended : Ending → Level → ℕ → Ended
 
--- What a new level tells the outer one of its atom, and the steps left.
+-- What a new level tells the outer one of its atom: it succeeds; it fails, finished with nothing parked; it is unsettled, finished with
+-- something parked; or a stop has interrupted it. And the steps left.
 pub data Verdict : Type 0 where
   succeeds fails unsettled : Verdict
   interrupted : Stop → Verdict

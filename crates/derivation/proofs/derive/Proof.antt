@@ -1,4 +1,4 @@
--- `derive::derive` meets its contract: the goals that the clauses give are turned over where they all have room; else the goal is written back.
+-- `derive` meets its contract: the goals that the clauses give are turned over where they all have room; else the goal is written back.
 -- Assumes nothing.
 use Prim.Native.Nat.{ℕ, _-_}
 use mathlib.Core.Path.{_≡_, sym, subst}

@@ -1,4 +1,4 @@
--- `derive::put_children` meets its contract. The loop's invariant: the goals that the clauses before i gave are counted, and in the store as
+-- `put_children` meets its contract. The loop's invariant: the goals that the clauses before i gave are counted, and in the store as
 -- far as there is room. Clause i, if there is one, is about the predicate. The measure is the number of clauses left. Assumes nothing.
 use Prim.Native.Nat.{ℕ, _+_, _-_, _*_, _≤_, _<_}
 use mathlib.Core.Path.{_≡_, refl, ap, sym, _∙_, subst}

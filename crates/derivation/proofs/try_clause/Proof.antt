@@ -1,4 +1,4 @@
--- `derive::try_clause` meets its contract: the clause's first cell is its predicate, and the literal's first cell the literal's. Assumes nothing.
+-- `try_clause` meets its contract: the clause's first cell is its predicate, and the literal's first cell the literal's. Assumes nothing.
 use Prim.Native.Nat.{ℕ, _+_, _<_}
 use mathlib.Core.Path.{_≡_, refl, sym, _∙_, subst}
 use mathlib.Core.List.{List, _∷_}

@@ -1,4 +1,4 @@
--- `levels::expanded` meets its contract: the answer is computed. Assumes nothing.
+-- `expanded` meets its contract: the answer is computed. Assumes nothing.
 use borrow.Author.Needs.{needs}
 use Rattle.levels.proofs.expanded.Statement.{statement}
 use Rattle.levels.proofs.expanded.Tie as tie

@@ -1,4 +1,4 @@
--- `levels::settle` meets its contract: each closing by its law. Assumes nothing.
+-- `settle` meets its contract: each closing by its law. Assumes nothing.
 use native.Mathlib.Omega.{arith}
 use borrow.Author.Needs.{needs}
 use Rattle.levels.proofs.NegativeLaws.{negates-inside}
