@@ -10,11 +10,12 @@ use lib.ListN.{length, getD}
 use Rattle.rules.specs.Syntax.{Literal, pos, neg, Deck, Goal, varsLiterals}
 use Rattle.rules.specs.Goals.{Marked, unmarked, appearing, variables, queryVariables, firstGoal}
 use Rattle.rules.specs.Evaluation.{finished, Level, zeroth, Ended, ended, succeeded, stopped, evaluateLevel, Outcome, stopOf, outcome, evaluate}
-use Rattle.rules.specs.Meaning.{Inds, inil, icons, Filling, evals, Atoms, Interpretation, Holds, Some, SatisfiesBy, Satisfies, individual, individuals, QueryHolds, CoversBy, Covers, SomeCovers}
+use Rattle.rules.specs.Meaning.{Inds, inil, icons, Filling, evals, Atoms, Interpretation, Reading, twoValued, Holds, Some, SatisfiesBy, Satisfies, individual, individuals, QueryHolds, CoversBy, Covers, SomeCovers}
 use Rattle.rules.specs.WellFormed.{InOrder}
-use Rattle.rules.proofs.Existence.{Existence, merely, atHand, Into, some-left, some-right, some-split}
+use Rattle.rules.proofs.Existence.{Existence, merely, atHand, Into, some-left, some-right, some-split, merely-some}
 use Rattle.rules.proofs.NumberingLaws.{upTo, above, in-upTo, position-upTo, at-position, numbered-appearing, numbered-count, appearing-finds}
 use Rattle.rules.proofs.Values.{AgreeOn, holds-on}
+use Rattle.rules.proofs.ResolventSound.{OneWay, two-valued-way}
 use Rattle.rules.proofs.LevelSound.{Open, inAnswers, inPending, inParked, level, EndedSound, level-sound}
 
 -- The listed answers, then the goals left open.
@@ -22,10 +23,10 @@ abbrev pub remaining : Outcome → List Marked
 remaining o = unmarked (o .answers) ++ (unmarked (o .pending) ++ o .parked)
 
 -- Some goal of a list covers the choice, with the cover at hand.
-abbrev pub SomeCoversBy : Atoms → Inds → List Marked → Type 0
+abbrev pub SomeCoversBy : Reading → Inds → List Marked → Type 0
 SomeCoversBy I choice ms = Some (λ m. CoversBy I choice (m .goal)) ms
 
-module _ (I : Atoms) (choice : Inds) where
+module _ (I : Reading) (choice : Inds) where
   to-marked : (gs : List Goal) → Some (CoversBy I choice) gs → SomeCoversBy I choice (unmarked gs)
   to-marked [] h = h
   to-marked (g ∷ gs) (inl h) = inl h
@@ -52,46 +53,42 @@ module _ (I : Atoms) (choice : Inds) where
       | inr k ↦ elim (some-split Covering (unmarked (l .pending)) (l .parked) k) [ inl b ↦ inPending (from-marked (l .pending) b) | inr c ↦ inParked c ]
     ]
 
--- THE EVALUATION, for both readings of "there is some": of the goals before it and what it comes to.
-pub record OutcomeSound (X : Existence) (I : Atoms) (before : List Marked) (o : Outcome) : Type 0 where
-  pub covers : (choice : Inds) → Into X (SomeCoversBy I choice before) (SomeCoversBy I choice (remaining o))
+-- THE EVALUATION, however "there is some" is read: of the goals before it and what it comes to.
+pub record OutcomeSound (X : Existence) (I J : Reading) (before : List Marked) (o : Outcome) : Type 0 where
+  pub covers : (choice : Inds) → Into X (SomeCoversBy I choice) (SomeCoversBy J choice) before (remaining o)
   pub emptied : o .stop ≡ finished → o .pending ≡ []
 
 pub outcome-sound :
-    (X : Existence) (I : Atoms) (deck : Deck) → SatisfiesBy (X .M) I (deck .clauses) → (answerRoom storeSize : ℕ) (gs : List Goal) (ms : List Marked) (total : ℕ)
-    → OutcomeSound X I (unmarked gs ++ ms) (evaluate deck answerRoom storeSize gs ms total)
+    (X : Existence) (I J : Reading) (deck : Deck) → OneWay X I J (deck .clauses) → (answerRoom storeSize : ℕ) (gs : List Goal) (ms : List Marked) (total : ℕ)
+    → OutcomeSound X I J (unmarked gs ++ ms) (evaluate deck answerRoom storeSize gs ms total)
 unfolding evaluate outcome stopOf
-outcome-sound X I deck sat answerRoom storeSize gs ms total =
+outcome-sound X I J deck way answerRoom storeSize gs ms total =
     go (evaluateLevel (deck .clauses) answerRoom storeSize 32 zeroth (level gs ms []) total)
-    (level-sound X I (deck .clauses) sat answerRoom storeSize 32 zeroth (level gs ms []) total)
+    (level-sound X I J (deck .clauses) way answerRoom storeSize 32 zeroth (level gs ms []) total)
   where
-    go : (e : Ended) → EndedSound X I zeroth (level gs ms []) e → OutcomeSound X I (unmarked gs ++ ms) (outcome total e)
+    go : (e : Ended) → EndedSound X I J zeroth (level gs ms []) e → OutcomeSound X I J (unmarked gs ++ ms) (outcome total e)
     go (ended succeeded l left) h = absurd h
     go (ended (stopped s) l left) h = record {
       covers = λ choice. (
         λ k. X .bind (h .0 .0 choice .0 (from-list I choice (level gs ms []) k)) (λ o. X .unit (to-list I choice l o)),
-        λ k. to-list I choice (level gs ms []) (h .0 .0 choice .1 (from-list I choice l k)),
+        λ k. to-list J choice (level gs ms []) (h .0 .0 choice .1 (from-list J choice l k)),
       );
       emptied = h .1;
     }
 
--- By mere existence.
-some-merely : (I : Interpretation) (choice : Inds) (ms : List Marked) → SomeCovers I choice ms ↔ ∥ SomeCoversBy (I .atoms) choice ms ∥₁
-unfolding SomeCovers Covers
-some-merely I choice ms = (λ h. ∥∥₁-elim h ∥∥₁-prop (gather ms), λ h. ∥∥₁-map h (spread ms))
-  where
-    gather : (ks : List Marked) → Some (λ m. ∥ CoversBy (I .atoms) choice (m .goal) ∥₁) ks → ∥ SomeCoversBy (I .atoms) choice ks ∥₁
-    gather [] h = absurd h
-    gather (k ∷ ks) (inl h) = ∥∥₁-map h inl
-    gather (k ∷ ks) (inr h) = ∥∥₁-map (gather ks h) inr
+-- With two values.
+pub two-valued-sound :
+    (X : Existence) → ¬ X .Absurd → (I : Atoms) (deck : Deck) → SatisfiesBy (X .M) (twoValued I) (deck .clauses) → (answerRoom storeSize : ℕ) (gs : List Goal) (ms : List Marked) (total : ℕ)
+    → OutcomeSound X (twoValued I) (twoValued I) (unmarked gs ++ ms) (evaluate deck answerRoom storeSize gs ms total)
+two-valued-sound X nothing I deck sat = outcome-sound X (twoValued I) (twoValued I) deck (two-valued-way X nothing I (deck .clauses) sat)
 
-    spread : (ks : List Marked) → SomeCoversBy (I .atoms) choice ks → Some (λ m. ∥ CoversBy (I .atoms) choice (m .goal) ∥₁) ks
-    spread [] h = absurd h
-    spread (k ∷ ks) (inl h) = inl ∣ h ∣₁
-    spread (k ∷ ks) (inr h) = inr (spread ks h)
+-- By mere existence.
+some-merely : (I : Interpretation) (choice : Inds) (ms : List Marked) → SomeCovers I choice ms ↔ ∥ SomeCoversBy (twoValued (I .atoms)) choice ms ∥₁
+unfolding SomeCovers Covers
+some-merely I choice ms = merely-some (λ m. CoversBy (twoValued (I .atoms)) choice (m .goal)) ms
 
 pub covers-merely :
-    (I : Interpretation) (choice : Inds) (ms ns : List Marked) → Into merely (SomeCoversBy (I .atoms) choice ms) (SomeCoversBy (I .atoms) choice ns)
+    (I : Interpretation) (choice : Inds) (ms ns : List Marked) → Into merely (SomeCoversBy (twoValued (I .atoms)) choice) (SomeCoversBy (twoValued (I .atoms)) choice) ms ns
     → SomeCovers I choice ms ↔ SomeCovers I choice ns
 covers-merely I choice ms ns i =
     let before = some-merely I choice ms in
@@ -107,11 +104,13 @@ module _ (deck : Deck) (answerRoom storeSize : ℕ) (gs : List Goal) (ms : List 
   pub evaluate-covers : (I : Interpretation) → Satisfies I deck → (choice : Inds) → SomeCovers I choice (unmarked gs ++ ms) ↔ SomeCovers I choice (remaining result)
   unfolding Satisfies
   evaluate-covers I sat choice =
-      covers-merely I choice (unmarked gs ++ ms) (remaining result) (outcome-sound merely (I .atoms) deck sat answerRoom storeSize gs ms total .covers choice)
+      covers-merely I choice (unmarked gs ++ ms) (remaining result) (two-valued-sound merely (λ b. b) (I .atoms) deck sat answerRoom storeSize gs ms total .covers choice)
 
   -- With the cover at hand, in a set of atoms in the wide sense.
-  pub evaluate-covers-by : (I : Atoms) → SatisfiesBy (λ A. A) I (deck .clauses) → (choice : Inds) → SomeCoversBy I choice (unmarked gs ++ ms) ↔ SomeCoversBy I choice (remaining result)
-  evaluate-covers-by I sat choice = outcome-sound atHand I deck sat answerRoom storeSize gs ms total .covers choice
+  pub evaluate-covers-by :
+      (I : Atoms) → SatisfiesBy (λ A. A) (twoValued I) (deck .clauses) → (choice : Inds)
+      → SomeCoversBy (twoValued I) choice (unmarked gs ++ ms) ↔ SomeCoversBy (twoValued I) choice (remaining result)
+  evaluate-covers-by I sat choice = two-valued-sound atHand (λ b. b) I deck sat answerRoom storeSize gs ms total .covers choice
 
 -- THE QUERY. Its first goal covers a choice exactly if it holds for it.
 inds-same : (us vs : Inds) → individuals us ≡ individuals vs → ((i : ℕ) → i < individuals us → individual us i ≡ individual vs i) → us ≡ vs
@@ -143,7 +142,7 @@ variables-same ν μ (x ∷ xs) e v h = elim (List·Memᴰ·cases-cons h) [
 upTo-at : (i n : ℕ) → i < n → getD (upTo n) i 0 ≡ i
 upTo-at i n l = ap (λ j. getD (upTo n) j 0) (sym (position-upTo i n l)) ∙ at-position i (in-upTo i n l)
 
-holds-prop : (I : Interpretation) (ν : Filling) (ls : List Literal) → IsProp (Holds (I .atoms) ν ls)
+holds-prop : (I : Interpretation) (ν : Filling) (ls : List Literal) → IsProp (Holds (twoValued (I .atoms)) ν ls)
 holds-prop I ν [] = Unit-prop
 holds-prop I ν (pos p ts ∷ ls) = ×-prop (I .proposition p (evals ν ts)) (holds-prop I ν ls)
 holds-prop I ν (neg p ts ∷ ls) = ×-prop ¬-prop (holds-prop I ν ls)
@@ -162,7 +161,7 @@ module _ (query : List Literal) (ordered : InOrder (varsLiterals query)) (choice
       at : (i : ℕ) → i < length order → getD order i 0 ≡ i
       at i l = rw (numbered-appearing (varsLiterals query) ordered) (upTo-at i (above (varsLiterals query)) (omega (arith, numbered-count (varsLiterals query) ordered)))
 
-  first-covers : (I : Atoms) → Holds I (individual choice) query ↔ CoversBy I choice (firstGoal query)
+  pub first-covers : (I : Reading) → Holds I (individual choice) query ↔ CoversBy I choice (firstGoal query)
   unfolding firstGoal queryVariables
   first-covers I = (
     λ h. (individual choice, choice-listed, h),
@@ -175,7 +174,7 @@ module _ (query : List Literal) (ordered : InOrder (varsLiterals query)) (choice
   pub query-first : (I : Interpretation) → QueryHolds I query choice ↔ SomeCovers I choice (unmarked (firstGoal query ∷ []))
   unfolding QueryHolds
   query-first I =
-      let first = first-covers (I .atoms) in
+      let first = first-covers (twoValued (I .atoms)) in
       let alone = some-merely I choice (unmarked (firstGoal query ∷ [])) in
       (λ h. alone .1 ∣ inl (first .0 h) ∣₁, λ h. ∥∥₁-elim (alone .0 h) (holds-prop I (individual choice) query) (λ k. elim k [ inl c ↦ first .1 c | inr b ↦ absurd b ]))
 
@@ -187,9 +186,11 @@ module _ (query : List Literal) (ordered : InOrder (varsLiterals query)) (choice
     pub query-covers : (I : Interpretation) → Satisfies I deck → QueryHolds I query choice ↔ SomeCovers I choice (remaining asked)
     query-covers I sat = Iff·trans (query-first I) (evaluate-covers deck answerRoom storeSize (firstGoal query ∷ []) [] total I sat choice)
 
-    pub query-covers-by : (I : Atoms) → SatisfiesBy (λ A. A) I (deck .clauses) → Holds I (individual choice) query ↔ SomeCoversBy I choice (remaining asked)
+    pub query-covers-by :
+        (I : Atoms) → SatisfiesBy (λ A. A) (twoValued I) (deck .clauses)
+        → Holds (twoValued I) (individual choice) query ↔ SomeCoversBy (twoValued I) choice (remaining asked)
     query-covers-by I sat =
-        let first = first-covers I in
+        let first = first-covers (twoValued I) in
         let i = evaluate-covers-by deck answerRoom storeSize (firstGoal query ∷ []) [] total I sat choice in
         (λ h. i .0 (inl (first .0 h)), λ h. elim (i .1 h) [ inl c ↦ first .1 c | inr b ↦ absurd b ])
 
@@ -198,7 +199,7 @@ module _ (query : List Literal) (ordered : InOrder (varsLiterals query)) (choice
       pub finished-lists-all : QueryHolds I query choice ↔ SomeCovers I choice (unmarked (asked .answers))
       unfolding Satisfies
       finished-lists-all =
-          let e : asked .pending ≡ [] = outcome-sound merely (I .atoms) deck sat answerRoom storeSize (firstGoal query ∷ []) [] total .emptied all in
+          let e : asked .pending ≡ [] = two-valued-sound merely (λ b. b) (I .atoms) deck sat answerRoom storeSize (firstGoal query ∷ []) [] total .emptied all in
           let r : remaining asked ≡ unmarked (asked .answers) = rw (e, nothing-parked) (append-nil (unmarked (asked .answers))) in
           subst (λ (ms : List Marked). QueryHolds I query choice ↔ SomeCovers I choice ms) r (query-covers I sat)
 

@@ -8,15 +8,16 @@ use mathlib.Core.List.{List, [], _∷_, _++_, append-nil}
 use mathlib.Core.Option.{some}
 use native.Mathlib.Omega.{arith}
 use lib.ListN.{length, drop, length-append, take-append-drop}
-use Rattle.rules.specs.Syntax.{Symbol, Literal, Deck, Goal}
+use Rattle.rules.specs.Syntax.{Symbol, Literal, Deck, Goal, varsLiterals}
 use Rattle.rules.specs.Refusals.{badStore, badScratch, Checked, refused, accepted, andThen, require}
 use Rattle.rules.specs.Decks.{openDeck, readQuery}
 use Rattle.rules.specs.Goals.{Marked, unmarked, writeGoals, readGoals, queryVariables, firstGoal}
 use Rattle.rules.specs.Evaluation.{Outcome, evaluate}
 use Rattle.rules.specs.Run.{run, Report, report, returned, answersAfter, storeStart, Slices, Filled, Leaves, runOn, Ran}
 use Rattle.rules.specs.Meaning.{Inds, Interpretation, Satisfies, individuals, QueryHolds, SomeCovers}
-use Rattle.rules.specs.Demand.{Read, Demand3}
-use Rattle.rules.specs.WellFormed.{All, WfGoal, WfMarked}
+use Rattle.rules.specs.ThreeValues.{_≈_, Interpretation3, Satisfies3, queryValue, goalsValue, ExcludedMiddle}
+use Rattle.rules.specs.Demand.{Read, Covered, Valued, Known, Said, Demand3}
+use Rattle.rules.specs.WellFormed.{All, InOrder, WfGoal, WfMarked}
 use Rattle.rules.proofs.ListLaws.{all-append, length-unmarked}
 use Rattle.rules.proofs.GoalLaws.{read-goals}
 use Rattle.rules.proofs.DeckLaws.{opened-written, query-reads}
@@ -24,7 +25,8 @@ use Rattle.rules.proofs.FirstGoal.{firstGoal-wf}
 use Rattle.rules.proofs.Keeps.{OutcomeHas}
 use Rattle.rules.proofs.GoalsKept.{WellFormed, evaluate-keeps}
 use Rattle.rules.proofs.EndLaws.{Bare, answers-bare}
-use Rattle.rules.proofs.Cover.{remaining, query-covers}
+use Rattle.rules.proofs.Cover.{query-covers}
+use Rattle.rules.proofs.ThreeCover.{query-stays, query-values}
 
 -- An accepted run is the evaluation of the query that was read, over the deck that was opened.
 pub record Accepted (deckWords queryWords : List ℕ) (budget answerRoom storeSize : ℕ) (o : Outcome) : Type 0 where
@@ -75,57 +77,97 @@ left-read deck o entry exit w bare f = record {
       (read-goals (deck .symbols) open′ _ (all-append (WfMarked (deck .symbols)) (unmarked (o .pending)) (o .parked) (unmarked-all (WfGoal (deck .symbols)) (o .pending) (w .pending)) (w .parked))));
 }
 
+-- A statement about what every evaluation of a query leaves is one about the words that an accepted run leaves.
+module _
+    (Statement : Deck → List Literal → List Marked → List Marked → Type 1)
+    (holds : (deck : Deck) (query : List Literal) → InOrder (varsLiterals query) → (answerRoom storeSize total : ℕ)
+    → let o = evaluate deck answerRoom storeSize (firstGoal query ∷ []) [] total in Statement deck query (unmarked (o .answers)) (unmarked (o .pending) ++ o .parked))
+    (deckWords queryWords : List ℕ) (budget : ℕ) (entry exit : Slices) (r : Report) where
+  run-says : Ran deckWords queryWords budget entry (accepted r) exit → Said Statement deckWords queryWords r exit
+  unfolding Leaves returned runOn
+  run-says ran = go (runOn deckWords queryWords budget entry) refl (ran .returns) (ran .leaves)
+    where
+      go : (c : Checked Outcome) → runOn deckWords queryWords budget entry ≡ c → accepted r ≡ returned c → Leaves c entry exit → Said Statement deckWords queryWords r exit
+      go (refused n) e back left = absurd (let z : _≡_ {A = ℕ} 0 1 = cc in omega arith)
+      go (accepted o) e back left =
+          let a = run-accepted deckWords queryWords budget (length (entry .answers)) (length (entry .store)) (length (entry .scratch)) o e in
+          let same : r ≡ report o = cc in
+          let deck : Deck = a .deck in
+          let query : List Literal = a .query in
+          let wf = opened-written deckWords deck (a .opens) .1 in
+          let q = query-reads deck queryWords query (a .asks) in
+          let first = firstGoal-wf (deck .symbols) query (q .1) in
+          let kept = evaluate-keeps deck wf (length (entry .answers)) (length (entry .store)) (firstGoal query ∷ []) [] budget (first, tt) tt in
+          record {
+            deck = deck;
+            query = query;
+            listed = unmarked (o .answers);
+            leftOpen = unmarked (o .pending) ++ o .parked;
+            opens = a .opens;
+            asks = a .asks;
+            reads = subst (λ (x : Report). Read deck x exit (unmarked (o .answers)) (unmarked (o .pending) ++ o .parked)) (sym same)
+                (left-read deck o entry exit (subst (OutcomeHas (WellFormed (deck .symbols))) (sym (a .evaluates)) kept)
+                (subst (λ (x : Outcome). All Bare (x .answers)) (sym (a .evaluates)) (answers-bare deck (length (entry .answers)) (length (entry .store)) (firstGoal query ∷ []) [] budget)) left);
+            covered = subst (λ (x : Outcome). Statement deck query (unmarked (x .answers)) (unmarked (x .pending) ++ x .parked)) (sym (a .evaluates))
+                (holds deck query (q .1 .inOrder) (length (entry .answers)) (length (entry .store)) budget);
+          }
+
 -- DEMAND 3
 pub demand-3 :
     (deckWords queryWords : List ℕ) (budget : ℕ) (entry exit : Slices) (r : Report) → Ran deckWords queryWords budget entry (accepted r) exit
     → Demand3 deckWords queryWords r exit
-unfolding Leaves returned runOn
-demand-3 deckWords queryWords budget entry exit r ran = go (runOn deckWords queryWords budget entry) refl (ran .returns) (ran .leaves)
-  where
-    go : (c : Checked Outcome) → runOn deckWords queryWords budget entry ≡ c → accepted r ≡ returned c → Leaves c entry exit → Demand3 deckWords queryWords r exit
-    go (refused n) e back left = absurd (let z : _≡_ {A = ℕ} 0 1 = cc in omega arith)
-    go (accepted o) e back left =
-        let a = run-accepted deckWords queryWords budget (length (entry .answers)) (length (entry .store)) (length (entry .scratch)) o e in
-        let same : r ≡ report o = cc in
-        let deck : Deck = a .deck in
-        let query : List Literal = a .query in
-        let wf = opened-written deckWords deck (a .opens) .1 in
-        let q = query-reads deck queryWords query (a .asks) in
-        let first = firstGoal-wf (deck .symbols) query (q .1) in
-        let kept = evaluate-keeps deck wf (length (entry .answers)) (length (entry .store)) (firstGoal query ∷ []) [] budget (first, tt) tt in
-        record {
-          deck = deck;
-          query = query;
-          listed = unmarked (o .answers);
-          leftOpen = unmarked (o .pending) ++ o .parked;
-          opens = a .opens;
-          asks = a .asks;
-          reads = subst (λ (x : Report). Read deck x exit (unmarked (o .answers)) (unmarked (o .pending) ++ o .parked)) (sym same)
-              (left-read deck o entry exit (subst (OutcomeHas (WellFormed (deck .symbols))) (sym (a .evaluates)) kept)
-              (subst (λ (x : Outcome). All Bare (x .answers)) (sym (a .evaluates)) (answers-bare deck (length (entry .answers)) (length (entry .store)) (firstGoal query ∷ []) [] budget)) left);
-          covered = λ I sat choice many. subst (λ (x : Outcome). QueryHolds I query choice ↔ SomeCovers I choice (remaining x)) (sym (a .evaluates))
-              (query-covers query (q .1 .inOrder) choice many deck (length (entry .answers)) (length (entry .store)) budget I sat);
-        }
+demand-3 = run-says Covered (λ deck query ordered answerRoom storeSize total I sat choice many. query-covers query ordered choice many deck answerRoom storeSize total I sat)
+
+-- In three values, by excluded middle; and what needs none.
+pub demand-3-valued :
+    ExcludedMiddle → (deckWords queryWords : List ℕ) (budget : ℕ) (entry exit : Slices) (r : Report) → Ran deckWords queryWords budget entry (accepted r) exit
+    → Said Valued deckWords queryWords r exit
+demand-3-valued em = run-says Valued (λ deck query ordered answerRoom storeSize total I sat choice many. query-values query ordered choice many I deck sat answerRoom storeSize total em)
+
+pub demand-3-known :
+    (deckWords queryWords : List ℕ) (budget : ℕ) (entry exit : Slices) (r : Report) → Ran deckWords queryWords budget entry (accepted r) exit
+    → Said Known deckWords queryWords r exit
+demand-3-known = run-says Known (λ deck query ordered answerRoom storeSize total I sat choice many. query-stays query ordered choice many I deck sat answerRoom storeSize total)
+
+-- Where the counts are 0 there are no such goals.
+module _ {Statement : Deck → List Literal → List Marked → List Marked → Type 1} {deckWords queryWords : List ℕ} {r : Report} {exit : Slices} (d : Said Statement deckWords queryWords r exit) where
+  none-open : r .pending + r .parked ≡ 0 → d .listed ++ d .leftOpen ≡ d .listed
+  unfolding readGoals
+  none-open b =
+      let k : readGoals (d .deck .symbols) 0 (exit .store) ≡ some (d .leftOpen) = rw b at (d .reads .store) in
+      let f : d .leftOpen ≡ [] = cc in
+      ap (d .listed ++_) f ∙ append-nil (d .listed)
+
+  none-listed : r .answers ≡ 0 → d .listed ≡ []
+  unfolding readGoals
+  none-listed a = let l : readGoals (d .deck .symbols) 0 (exit .answers) ≡ some (d .listed) = rw a at (d .reads .answers) in cc
 
 -- THE COROLLARIES in the user's words. Where nothing is left open, the query holds exactly for the choices that a listed answer covers;
 pub all-listed :
     {deckWords queryWords : List ℕ} {r : Report} {exit : Slices} (d : Demand3 deckWords queryWords r exit) → r .pending + r .parked ≡ 0
     → (I : Interpretation) → Satisfies I (d .deck) → (choice : Inds) → individuals choice ≡ length (queryVariables (d .query))
     → QueryHolds I (d .query) choice ↔ SomeCovers I choice (d .listed)
-unfolding readGoals
-all-listed {r = r} {exit} d b I sat choice many =
-    let k : readGoals (d .deck .symbols) 0 (exit .store) ≡ some (d .leftOpen) = rw b at (d .reads .store) in
-    let f : d .leftOpen ≡ [] = cc in
-    let e : d .listed ++ d .leftOpen ≡ d .listed = ap (d .listed ++_) f ∙ append-nil (d .listed) in
-    rw e at (d .covered I sat choice many)
+all-listed d b I sat choice many = rw (none-open d b) at (d .covered I sat choice many)
 
 -- and where nothing is listed either, it holds for no choice.
 pub nothing-left :
     {deckWords queryWords : List ℕ} {r : Report} {exit : Slices} (d : Demand3 deckWords queryWords r exit) → r .answers ≡ 0 → r .pending + r .parked ≡ 0
     → (I : Interpretation) → Satisfies I (d .deck) → (choice : Inds) → individuals choice ≡ length (queryVariables (d .query)) → ¬ QueryHolds I (d .query) choice
-unfolding readGoals SomeCovers
-nothing-left {r = r} {exit} d a b I sat choice many h =
-    let l : readGoals (d .deck .symbols) 0 (exit .answers) ≡ some (d .listed) = rw a at (d .reads .answers) in
-    let e : d .listed ≡ [] = cc in
-    let none : SomeCovers I choice [] = rw e at (all-listed d b I sat choice many .0 h) in
+unfolding SomeCovers
+nothing-left d a b I sat choice many h =
+    let none : SomeCovers I choice [] = rw (none-listed d a) at (all-listed d b I sat choice many .0 h) in
     ∥∥₁-elim none ⊥-prop (λ x. x)
+
+-- In three values: the query's value is the highest that a listed answer gives;
+pub all-listed-valued :
+    {deckWords queryWords : List ℕ} {r : Report} {exit : Slices} (d : Said Valued deckWords queryWords r exit) → r .pending + r .parked ≡ 0
+    → (I : Interpretation3) → Satisfies3 I (d .deck) → (choice : Inds) → individuals choice ≡ length (queryVariables (d .query))
+    → queryValue I (d .query) choice ≈ goalsValue I choice (d .listed)
+all-listed-valued d b I sat choice many = rw (none-open d b) at (d .covered I sat choice many)
+
+-- and where nothing is listed either, it is false.
+pub nothing-left-false :
+    {deckWords queryWords : List ℕ} {r : Report} {exit : Slices} (d : Said Valued deckWords queryWords r exit) → r .answers ≡ 0 → r .pending + r .parked ≡ 0
+    → (I : Interpretation3) → Satisfies3 I (d .deck) → (choice : Inds) → individuals choice ≡ length (queryVariables (d .query)) → queryValue I (d .query) choice .isFalse
+unfolding goalsValue
+nothing-left-false d a b I sat choice many = all-listed-valued d b I sat choice many .1 .1 (rw (none-listed d a) tt)

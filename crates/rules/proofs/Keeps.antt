@@ -3,14 +3,14 @@ use Prim.Native.Nat.{ℕ}
 use mathlib.Core.Path.{_≡_, refl, subst}
 use mathlib.Core.Logic.{_⊎_, inl, inr}
 use mathlib.Core.Bool.{false}
-use mathlib.Core.List.{List, [], _∷_, _++_, List·Memᴰ, List·Memᴰ·head, List·Memᴰ·tail}
+use mathlib.Core.List.{List, [], _∷_, _++_, List·Memᴰ}
 use Rattle.rules.specs.Terms.{Terms, nil, varsTerms}
 use Rattle.rules.specs.Syntax.{Literal, pos, neg, Clause, Deck, Goal}
 use Rattle.rules.specs.Goals.{Mark, pending, floundered, undecided, oversized, deep, Marked, marked}
 use Rattle.rules.specs.Resolution.{resolvents, anyOversized}
 use Rattle.rules.specs.WellFormed.{All}
 use Rattle.rules.specs.Evaluation.{Level, startLevel, withPending, withParked, withAnswer, Place, zeroth, Act, noLiterals, park, derive, decide, question, Next, halt, step, success, ask, Ended, ended, nextOf, evaluateLevel, Outcome, outcome, evaluate}
-use Rattle.rules.proofs.ListLaws.{all-append, all-snoc, all-of}
+use Rattle.rules.proofs.ListLaws.{all-append, all-snoc, all-of, all-in}
 use Rattle.rules.proofs.SelectLaws.{Selected, select-selected}
 use Rattle.rules.proofs.NextLaws.{Acts, bare, flounders, overflows, resolves, bottoms, asks, Ahead, emptied, unpaid, unlisted, unstored, lists, parks, replaces, succeeds, inquires, ahead}
 use Rattle.rules.proofs.LevelLaws.{Runs, halts, steps, wins, proves, disproves, unsettles, interrupts, next-ahead, runs}
@@ -164,10 +164,6 @@ evaluate-has J deck kept answerRoom storeSize gs ms total h k =
     start = record { pending = gs; parked = ms; answers = [] }
 
 -- SHAPE
-all-in {ℓ} : {A : Type ℓ} (P : A → Type 0) (xs : List A) → ((x : A) → List·Memᴰ x xs → P x) → All P xs
-all-in P [] h = tt
-all-in P (x ∷ xs) h = (h x (List·Memᴰ·head refl), all-in P xs (λ y k. h y (List·Memᴰ·tail k)))
-
 -- An answer has no literals, and a goal that was not parked before the run has one of the marks of parked goals.
 abbrev pub Shape : List Marked → Invariant
 Shape before = record {

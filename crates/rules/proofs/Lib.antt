@@ -33,3 +33,9 @@ pub mod LevelSound
 pub mod Cover
 pub mod Continued
 pub mod Demand3
+-- Three values.
+pub mod ValueLaws
+pub mod Fitting
+pub mod ThreeCover
+pub mod Contradiction
+pub mod Needed

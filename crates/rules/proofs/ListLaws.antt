@@ -1,11 +1,13 @@
 -- Lists all of whose elements have a property, and how many goals there are.
-use mathlib.Core.Path.{_≡_, refl, ap}
-use mathlib.Core.List.{List, [], _∷_, _++_, map}
+use mathlib.Core.Path.{_≡_, refl, sym, ap, subst}
+use mathlib.Core.Logic.{inl, inr}
+use mathlib.Core.List.{List, [], _∷_, _++_, map, List·Memᴰ, List·Memᴰ·head, List·Memᴰ·tail, List·Memᴰ·not-nil, List·Memᴰ·cases-cons}
 use Prim.Native.Nat.{suc}
 use lib.ListN.{length}
 use Rattle.rules.specs.Syntax.{Goal}
 use Rattle.rules.specs.Goals.{unmarked}
 use Rattle.rules.specs.WellFormed.{All}
+use Rattle.rules.specs.Meaning.{Some}
 
 module _ {ℓ} {A : Type ℓ} (P : A → Type 0) where
   pub all-append : (xs ys : List A) → All P xs → All P ys → All P (xs ++ ys)
@@ -40,3 +42,22 @@ all-map P f (x ∷ xs) a = (a .0, all-map P f xs (a .1))
 pub length-unmarked : (gs : List Goal) → length (unmarked gs) ≡ length gs
 length-unmarked [] = refl
 length-unmarked (g ∷ gs) = ap suc (length-unmarked gs)
+
+-- What holds of every element, or of some, by the elements that are in the list.
+module _ {ℓ} {A : Type ℓ} (P : A → Type 0) where
+  pub all-in : (xs : List A) → ((x : A) → List·Memᴰ x xs → P x) → All P xs
+  all-in [] h = tt
+  all-in (x ∷ xs) h = (h x (List·Memᴰ·head refl), all-in xs (λ y m. h y (List·Memᴰ·tail m)))
+
+  pub in-all : (xs : List A) → All P xs → (x : A) → List·Memᴰ x xs → P x
+  in-all [] a x m = absurd (List·Memᴰ·not-nil m)
+  in-all (y ∷ ys) a x m = elim (List·Memᴰ·cases-cons m) [ inl e ↦ subst P (sym e) (a .0) | inr k ↦ in-all ys (a .1) x k ]
+
+  pub some-in : (xs : List A) → Some P xs → (x : A) × List·Memᴰ x xs × P x
+  some-in [] h = absurd h
+  some-in (x ∷ xs) (inl h) = (x, List·Memᴰ·head refl, h)
+  some-in (x ∷ xs) (inr h) = let r = some-in xs h in (r .0, List·Memᴰ·tail (r .1), r .2)
+
+  pub in-some : (xs : List A) (x : A) → List·Memᴰ x xs → P x → Some P xs
+  in-some [] x m h = absurd (List·Memᴰ·not-nil m)
+  in-some (y ∷ ys) x m h = elim (List·Memᴰ·cases-cons m) [ inl e ↦ inl (subst P e h) | inr k ↦ inr (in-some ys x k h) ]

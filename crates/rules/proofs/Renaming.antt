@@ -10,15 +10,15 @@ use Rattle.rules.specs.Terms.{Terms, renames}
 use Rattle.rules.specs.Syntax.{Goal, mapGoal, varsLiterals, varsGoal, topGoal}
 use Rattle.rules.specs.Goals.{appearing, position, renumber}
 use Rattle.rules.specs.Resolution.{fresh}
-use Rattle.rules.specs.Meaning.{Inds, Filling, evals, Atoms, Holds, CoversBy}
+use Rattle.rules.specs.Meaning.{Inds, Filling, evals, Reading, Holds, CoversBy}
 use Rattle.rules.proofs.NumberingLaws.{at-position, appearing-finds}
 use Rattle.rules.proofs.Values.{AgreeOn, evals-on, evals-below, renames-eval, holds-map, holds-on, holds-below}
 
 -- The goal covers the choice under ν.
-abbrev pub CoversAt : Atoms → Inds → Goal → Filling → Type 0
+abbrev pub CoversAt : Reading → Inds → Goal → Filling → Type 0
 CoversAt I choice g ν = (evals ν (g .answers) ≡ choice) × Holds I ν (g .literals)
 
-module _ (I : Atoms) (choice : Inds) (g : Goal) (ν μ : Filling) where
+module _ (I : Reading) (choice : Inds) (g : Goal) (ν μ : Filling) where
   -- After a change of the terms that is a change of the filling; under fillings that agree on the goal's variables, or below a number.
   pub covers-map : (F : Terms → Terms) → ((ts : Terms) → evals ν (F ts) ≡ evals μ ts) → CoversAt I choice (mapGoal F g) ν ≡ CoversAt I choice g μ
   covers-map F h = ap₂ (λ (A B : Type 0). A × B) (ap (λ (us : Inds). us ≡ choice) (h (g .answers))) (holds-map I ν μ F h (g .literals))
@@ -52,7 +52,7 @@ pub fresh-own : (N : ℕ) (ν : Filling) → (μ : Filling) × ((ts : Terms) →
 fresh-own N ν = ((λ v. ν (N + v)), renames-eval ν (λ v. N + v))
 
 -- Renumbering keeps what a goal covers.
-pub renumber-covers : (I : Atoms) (choice : Inds) (g : Goal) → CoversBy I choice (renumber g) ↔ CoversBy I choice g
+pub renumber-covers : (I : Reading) (choice : Inds) (g : Goal) → CoversBy I choice (renumber g) ↔ CoversBy I choice g
 unfolding renumber
 renumber-covers I choice g = (
   λ h. let k = transport (moved (h .0)) (h .1, h .2) in ((λ v. h .0 (position order v)), k .0, k .1),

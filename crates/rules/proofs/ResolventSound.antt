@@ -12,7 +12,7 @@ use Rattle.rules.specs.Terms.{Terms, tops}
 use Rattle.rules.specs.Syntax.{Literal, pos, Clause, Goal, mapLiterals, mapGoal, topLiterals, topGoal}
 use Rattle.rules.specs.Unification.{Unification, fails, spent, solved, applys, unify}
 use Rattle.rules.specs.Resolution.{clausesAbout, fresh, place, resolved, resolvent, keepSome, collect, resolvents}
-use Rattle.rules.specs.Meaning.{Inds, Filling, evals, Atoms, Holds, Some, Gives, SatisfiesBy, CoversBy}
+use Rattle.rules.specs.Meaning.{Inds, Filling, evals, Atoms, Reading, twoValued, Holds, Some, Gives, SatisfiesBy, CoversBy}
 use Rattle.rules.proofs.UnifyLaws.{unify-unspent}
 use Rattle.rules.proofs.Existence.{Existence, Into}
 use Rattle.rules.proofs.Values.{evals-below, holds-append, holds-map}
@@ -24,14 +24,14 @@ goalOf ts ls = record { answers = ts; literals = ls }
 
 -- The literals of a resolvent hold exactly if those of the goal around the selected one and the clause's body do.
 pub place-holds :
-    (I : Atoms) (ν : Filling) (before body after : List Literal)
+    (I : Reading) (ν : Filling) (before body after : List Literal)
     → Holds I ν (place before body after) ↔ (Holds I ν before × Holds I ν body × Holds I ν after)
 place-holds I ν before body after =
     let outer = holds-append I ν before (body ++ after) in
     let inner = holds-append I ν body after in
     (λ h. (outer .0 h .0, inner .0 (outer .0 h .1) .0, inner .0 (outer .0 h .1) .1), λ h. outer .1 (h .0, inner .1 (h .1, h .2)))
 
-module _ (I : Atoms) (choice : Inds) where
+module _ (I : Reading) (choice : Inds) where
   abbrev pub CoversOption : Option Goal → Type 0
   CoversOption none = ⊥
   CoversOption (some g) = CoversBy I choice g
@@ -146,7 +146,7 @@ top-selected [] p ts after = omega arith
 top-selected (l ∷ before) p ts after = omega (arith, top-selected before p ts after)
 
 -- A goal with a selected positive literal covers a choice under ν: so does a resolvent, if some clause gives the literal's atom under ν.
-module _ (I : Atoms) (choice : Inds) (clauses : List Clause) (g : Goal) (before : List Literal) (p : ℕ) (ts : Terms) (after : List Literal) (e : g .literals ≡ before ++ (pos p ts ∷ after)) where
+module _ (I : Reading) (choice : Inds) (clauses : List Clause) (g : Goal) (before : List Literal) (p : ℕ) (ts : Terms) (after : List Literal) (e : g .literals ≡ before ++ (pos p ts ∷ after)) where
   pub resolvents-cover : (ν : Filling) → CoversAt I choice g ν → Some (Gives I p (evals ν ts)) clauses → Some (CoversBy I choice) (resolvents clauses g before p ts after)
   unfolding resolvents
   resolvents-cover ν k gives =
@@ -155,19 +155,43 @@ module _ (I : Atoms) (choice : Inds) (clauses : List Clause) (g : Goal) (before 
       all-cover I choice _ (g .answers) before p ts after clauses ν (omega (arith, top-selected before p ts after)) (omega arith) (k .0, subst (Holds I ν) e (k .1)) gives
 
   -- What a resolvent covers, the goal covers, if the atoms that the clauses give are true.
-  pub resolvents-give : ((us : Inds) → Some (Gives I p us) clauses → I p us) → Some (CoversBy I choice) (resolvents clauses g before p ts after) → CoversBy I choice g
+  pub resolvents-give : ((us : Inds) → Some (Gives I p us) clauses → I .inside p us) → Some (CoversBy I choice) (resolvents clauses g before p ts after) → CoversBy I choice g
   unfolding resolvents
   resolvents-give true-atoms k =
       let r = all-give I choice _ (g .answers) before p ts after clauses k in
       let ν : Filling = r .0 in
       (ν, r .1 .0, subst (Holds I ν) (sym e) (holds-append I ν before (pos p ts ∷ after) .1 (r .1 .1, (true-atoms (evals ν ts) (r .2), r .1 .2))))
 
-  -- Clark's theorem 1, in an interpretation that satisfies the completed deck.
-  pub resolvents-sound : (X : Existence) → SatisfiesBy (X .M) I clauses → Into X (CoversBy I choice g) (Some (CoversBy I choice) (resolvents clauses g before p ts after))
-  resolvents-sound X sat = (
-    λ k.
+-- What one way of the argument asks of two readings of a deck: some clause gives each atom of I, and what the clauses give is an atom of J;
+-- atoms of J are not outside I, and what is not an atom of I is outside J.
+pub record OneWay (X : Existence) (I J : Reading) (clauses : List Clause) : Type 0 where
+  pub given : (p : ℕ) (us : Inds) → I .inside p us → X .M (Some (Gives I p us) clauses)
+  pub gives : (p : ℕ) (us : Inds) → Some (Gives J p us) clauses → J .inside p us
+  pub apart : (p : ℕ) (us : Inds) → J .inside p us → I .outside p us → X .Absurd
+  pub other : (p : ℕ) (us : Inds) → (I .inside p us → X .Absurd) → J .outside p us
+
+-- With two values one reading does for both.
+pub two-valued-way :
+    (X : Existence) → ¬ X .Absurd → (I : Atoms) (clauses : List Clause) → SatisfiesBy (X .M) (twoValued I) clauses → OneWay X (twoValued I) (twoValued I) clauses
+two-valued-way X nothing I clauses sat = record {
+  given = λ p us a. sat p us .0 a;
+  gives = λ p us g. sat p us .1 (X .unit g);
+  apart = λ p us a n. absurd (n a);
+  other = λ p us n a. nothing (n a);
+}
+
+-- Clark's theorem 1: a goal with a selected positive literal, into its resolvents.
+pub resolvents-sound :
+    (X : Existence) (I J : Reading) (clauses : List Clause) → OneWay X I J clauses
+    → (choice : Inds) (g : Goal) (before : List Literal) (p : ℕ) (ts : Terms) (after : List Literal) → g .literals ≡ before ++ (pos p ts ∷ after)
+    → Into X (Some (CoversBy I choice)) (Some (CoversBy J choice)) (g ∷ []) (resolvents clauses g before p ts after)
+resolvents-sound X I J clauses way choice g before p ts after e = (
+  λ h. elim h [
+    | inl k ↦ (
         let ν : Filling = k .0 in
-        let atom : I p (evals ν ts) = holds-append I ν before (pos p ts ∷ after) .0 (subst (Holds I ν) e (k .2)) .1 .0 in
-        X .bind (sat p (evals ν ts) .0 atom) (λ gives. X .unit (resolvents-cover ν (k .1, k .2) gives)),
-    resolvents-give (λ us gives. sat p us .1 (X .unit gives)),
-  )
+        let atom : I .inside p (evals ν ts) = holds-append I ν before (pos p ts ∷ after) .0 (subst (Holds I ν) e (k .2)) .1 .0 in
+        X .bind (way .given p (evals ν ts) atom) (λ gives. X .unit (resolvents-cover I choice clauses g before p ts after e ν (k .1, k .2) gives)))
+    | inr b ↦ absurd b
+  ],
+  λ k. inl (resolvents-give J choice clauses g before p ts after e (way .gives p) k),
+)

@@ -7,7 +7,7 @@ use native.Mathlib.Decide.{ℕ-discrete}
 use native.Mathlib.Omega.{arith}
 use Rattle.rules.specs.Terms.{Term, Terms, var, app, nil, cons, sub, subs, occ, occs, top, tops, rename, renames, varsTerm, varsTerms}
 use Rattle.rules.specs.Syntax.{Literal, pos, neg, mapLiterals, varsLiterals, topLiterals}
-use Rattle.rules.specs.Meaning.{Ind, Inds, node, inil, icons, Filling, eval, evals, Atoms, Holds}
+use Rattle.rules.specs.Meaning.{Ind, Inds, node, inil, icons, Filling, eval, evals, Reading, Holds}
 use Rattle.rules.proofs.TermLaws.{sub-free}
 use Rattle.rules.proofs.NumberingLaws.{In}
 
@@ -85,12 +85,9 @@ module _ (ν μ : Filling) where
         (ap₂ icons (a .0) (b .0), b .1)
 
 -- What literals say: as types, so that it can be carried over by `transport`.
-module _ (I : Atoms) where
+module _ (I : Reading) where
   abbrev Both : Type 0 → Type 0 → Type 0
   Both A B = A × B
-
-  abbrev Not : ℕ → Inds → Type 0
-  Not p us = ¬ I p us
 
   pub holds-append : (ν : Filling) (ls ms : List Literal) → Holds I ν (ls ++ ms) ↔ (Holds I ν ls × Holds I ν ms)
   holds-append ν [] ms = (λ h. (tt, h), λ h. h .1)
@@ -105,19 +102,19 @@ module _ (I : Atoms) where
     -- After a change of the terms that is a change of the filling.
     pub holds-map : (F : Terms → Terms) → ((ts : Terms) → evals ν (F ts) ≡ evals μ ts) → (ls : List Literal) → Holds I ν (mapLiterals F ls) ≡ Holds I μ ls
     holds-map F h [] = refl
-    holds-map F h (pos p ts ∷ ls) = ap₂ Both (ap (I p) (h ts)) (holds-map F h ls)
-    holds-map F h (neg p ts ∷ ls) = ap₂ Both (ap (Not p) (h ts)) (holds-map F h ls)
+    holds-map F h (pos p ts ∷ ls) = ap₂ Both (ap (I .inside p) (h ts)) (holds-map F h ls)
+    holds-map F h (neg p ts ∷ ls) = ap₂ Both (ap (I .outside p) (h ts)) (holds-map F h ls)
 
     -- Under fillings that agree below a number, or on the variables.
     pub holds-below : (N : ℕ) → ((v : ℕ) → v < N → ν v ≡ μ v) → (ls : List Literal) → topLiterals ls ≤ N → Holds I ν ls ≡ Holds I μ ls
     holds-below N same [] h = refl
-    holds-below N same (pos p ts ∷ ls) h = ap₂ Both (ap (I p) (evals-below ν μ N same ts (omega arith))) (holds-below N same ls (omega arith))
-    holds-below N same (neg p ts ∷ ls) h = ap₂ Both (ap (Not p) (evals-below ν μ N same ts (omega arith))) (holds-below N same ls (omega arith))
+    holds-below N same (pos p ts ∷ ls) h = ap₂ Both (ap (I .inside p) (evals-below ν μ N same ts (omega arith))) (holds-below N same ls (omega arith))
+    holds-below N same (neg p ts ∷ ls) h = ap₂ Both (ap (I .outside p) (evals-below ν μ N same ts (omega arith))) (holds-below N same ls (omega arith))
 
     pub holds-on : (ls : List Literal) → AgreeOn ν μ (varsLiterals ls) → Holds I ν ls ≡ Holds I μ ls
     holds-on [] h = refl
-    holds-on (pos p ts ∷ ls) h = let r = evals-on ν μ ts (varsLiterals ls) h in ap₂ Both (ap (I p) (r .0)) (holds-on ls (r .1))
-    holds-on (neg p ts ∷ ls) h = let r = evals-on ν μ ts (varsLiterals ls) h in ap₂ Both (ap (Not p) (r .0)) (holds-on ls (r .1))
+    holds-on (pos p ts ∷ ls) h = let r = evals-on ν μ ts (varsLiterals ls) h in ap₂ Both (ap (I .inside p) (r .0)) (holds-on ls (r .1))
+    holds-on (neg p ts ∷ ls) h = let r = evals-on ν μ ts (varsLiterals ls) h in ap₂ Both (ap (I .outside p) (r .0)) (holds-on ls (r .1))
 
 -- The size of an individual; its parts are smaller.
 abbrev mutual

@@ -12,6 +12,7 @@ use Rattle.rules.specs.Goals.{Marked, queryVariables, readGoals}
 use Rattle.rules.specs.Run.{Report, Slices}
 use Rattle.rules.specs.WellFormed.{All}
 use Rattle.rules.specs.Meaning.{Inds, Interpretation, Satisfies, individuals, QueryHolds, SomeCovers}
+use Rattle.rules.specs.ThreeValues.{_≈_, _⊑_, Interpretation3, Satisfies3, queryValue, goalsValue}
 
 -- The listed answers are the goals at the start of the answer list, as many as the returned number of answers; an answer has no literals.
 -- The goals left open are those at the start of the store, as many as the returned numbers of pending and parked goals together.
@@ -27,8 +28,20 @@ Covered deck query listed leftOpen =
     (I : Interpretation) → Satisfies I deck → (choice : Inds) → individuals choice ≡ length (queryVariables query)
     → QueryHolds I query choice ↔ SomeCovers I choice (listed ++ leftOpen)
 
--- Demand 3, of a deck's and a query's words, what the run returned and the words that it left.
-pub record Demand3 (deckWords queryWords : List ℕ) (r : Report) (exit : Slices) : Type 1 where
+-- The same in three values: in each interpretation of that kind, for each choice, the query's value equals the highest value that a listed answer or
+-- a goal left open gives there. And, as far as it goes without excluded middle: what the query's value is known to be, theirs is.
+abbrev pub Valued : Deck → List Literal → List Marked → List Marked → Type 1
+Valued deck query listed leftOpen =
+    (I : Interpretation3) → Satisfies3 I deck → (choice : Inds) → individuals choice ≡ length (queryVariables query)
+    → queryValue I query choice ≈ goalsValue I choice (listed ++ leftOpen)
+
+abbrev pub Known : Deck → List Literal → List Marked → List Marked → Type 1
+Known deck query listed leftOpen =
+    (I : Interpretation3) → Satisfies3 I deck → (choice : Inds) → individuals choice ≡ length (queryVariables query)
+    → queryValue I query choice ⊑ goalsValue I choice (listed ++ leftOpen)
+
+-- Such a statement, of a deck's and a query's words, what the run returned and the words that it left.
+pub record Said (Statement : Deck → List Literal → List Marked → List Marked → Type 1) (deckWords queryWords : List ℕ) (r : Report) (exit : Slices) : Type 1 where
   pub deck : Deck
   pub query : List Literal
   pub listed : List Marked
@@ -36,4 +49,8 @@ pub record Demand3 (deckWords queryWords : List ℕ) (r : Report) (exit : Slices
   pub opens : openDeck deckWords ≡ accepted deck
   pub asks : readQuery deck queryWords ≡ accepted query
   pub reads : Read deck r exit listed leftOpen
-  pub covered : Covered deck query listed leftOpen
+  pub covered : Statement deck query listed leftOpen
+
+-- Demand 3.
+abbrev pub Demand3 : List ℕ → List ℕ → Report → Slices → Type 1
+Demand3 = Said Covered

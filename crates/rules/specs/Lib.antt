@@ -11,6 +11,7 @@ pub mod Resolution
 pub mod Evaluation
 pub mod Run
 pub mod Meaning
+pub mod ThreeValues
 pub mod Demand
 pub mod Listing
 pub mod Program
