@@ -30,7 +30,7 @@ predicate-below ws d i c e at =
     omega (arith, positive-below (d .symbols) (c .predicate) _ (clause-at (d .symbols) (d .clauses) i c (w .clauses) at .literals .0 .0), w .fewSymbols)
 
 module _ (cs : List Clause) where
-  pub at-below : (i : ℕ) (c : Clause) → ClauseAt cs i c → i < length cs
+  at-below : (i : ℕ) (c : Clause) → ClauseAt cs i c → i < length cs
   at-below i c at = omega (arith, ap length at, length-drop i cs, length-drop (i + 1) cs)
 
   at-same : (i : ℕ) (c c′ : Clause) → ClauseAt cs i c → ClauseAt cs i c′ → c ≡ c′

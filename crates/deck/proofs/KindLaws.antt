@@ -12,7 +12,7 @@ use Rattle.rules.specs.Cells.{Cell, variable, function, positive, negative, inv
 use Rattle.rules.proofs.CellLaws.{cell-variable, Written, cell-written}
 use Rattle.deck.specs.declared.kinds.Kind.{Kind}
 use Rattle.deck.specs.declared.kinds.Kind.the-variants.{Variable, Function, Positive, Negative, Invalid}
-use Rattle.deck.specs.Kinds.{kindOf, arityOf}
+use Rattle.deck.specs.Kinds.{kindOf}
 use Rattle.deck.proofs.kinds.Kind.{the-type}
 
 -- What a predicate's arity gives, and `other` for whatever is no predicate.
@@ -39,14 +39,6 @@ unfolding negatedCell symbolCell
 negated-kind n none = refl
 negated-kind n (some (functor k)) = refl
 negated-kind n (some (predicate k)) = refl
-
--- No terms follow a variable.
-pub none-follow : (k : Kind) → Others (0 ∷ 4 ∷ []) k → arityOf k ≡ 0
-none-follow (Variable v) h = refl
-none-follow (Function k) h = absurd (miss (0 ∷ 4 ∷ []) 1 tt h)
-none-follow (Positive k) h = absurd (miss (0 ∷ 4 ∷ []) 2 tt h)
-none-follow (Negative k) h = absurd (miss (0 ∷ 4 ∷ []) 3 tt h)
-none-follow Invalid h = refl
 
 -- A variable's cell by its number.
 pub read-variable : (S : List Symbol) (c : ℕ) → 32768 ≤ c → c - 32768 ≤ 1023 → readCell S c ≡ variable (c - 32768)

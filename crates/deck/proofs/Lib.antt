@@ -3,6 +3,7 @@ pub mod KindLaws
 pub mod ScanLaws
 pub mod SymbolLaws
 pub mod RowLaws
+pub mod RefusalLaws
 pub mod OpenLaws
 pub mod WalkLaws
 pub mod PartLaws

@@ -1,5 +1,5 @@
 -- The number that opening a deck and checking a query come to, as the tests that the code makes, one after the other.
-use Prim.Native.Nat.{ℕ, _≤_}
+use Prim.Native.Nat.{ℕ}
 use mathlib.Core.Path.{_≡_, refl, ap, sym, _∙_}
 use mathlib.Core.Bool.{Bool, true, false}
 use mathlib.Core.Option.{Option, none, some, Option·some-injective}
@@ -9,14 +9,12 @@ use lib.ListN.{length}
 use lib.Dec.{leb}
 use Rattle.rules.specs.Syntax.{Symbol, Deck}
 use Rattle.rules.specs.Cells.{readLiterals}
-use Rattle.rules.specs.Refusals.{Refusal, badHeader, badSymbol, badStarts, longClause, badClause, longQuery, badQuery, badStore, badScratch, refusalNumber, Checked, refused, accepted, andThen, require, obtain, checkedNumber}
+use Rattle.rules.specs.Refusals.{Refusal, badHeader, badSymbol, badStarts, longClause, badClause, longQuery, badQuery, refusalNumber, Checked, refused, accepted, andThen, require, obtain, checkedNumber}
 use Rattle.rules.specs.Decks.{headerFits, symbolWords, clauseWords, termCells, readSymbol, readClause, readAll, startsFit, clauseRows, rowsShort, openDeck, readQuery, checkQuery}
 use Rattle.rules.proofs.DeckLaws.{steps-open}
-use Rattle.deck.specs.declared.Refusal.{Refusal as Why}
-use Rattle.deck.specs.declared.Refusal.the-variants.{Header, Symbol as BadSymbol, Starts, LongClause, Clause as BadClause, LongQuery, Query, Store, Scratch}
-use Rattle.deck.specs.declared.Checked.the-variants.{Refused}
-use Rattle.deck.specs.Answers.{numberOf, found}
+use Rattle.deck.specs.Answers.{found}
 use Rattle.deck.specs.Kinds.{symbolsOf}
+use Rattle.deck.proofs.RefusalLaws.{number-positive}
 use Rattle.deck.proofs.SymbolLaws.{found-symbols}
 
 -- The first number whose test fails.
@@ -80,17 +78,6 @@ open-number ws =
     (obtained badClause (readAll (readClause S) (clauseRows (termCells ws) (clauseWords ws))) _ 0 λ cs q. refl))))
 
 -- Checking a query.
-refusal-number : (n : Refusal) → 1 ≤ refusalNumber n
-refusal-number badHeader = omega arith
-refusal-number badSymbol = omega arith
-refusal-number badStarts = omega arith
-refusal-number longClause = omega arith
-refusal-number badClause = omega arith
-refusal-number longQuery = omega arith
-refusal-number badQuery = omega arith
-refusal-number badStore = omega arith
-refusal-number badScratch = omega arith
-
 obtained-last : {A : Type 0} (n : Refusal) (o : Option A) → checkedNumber (obtain n o) ≡ unless (found o) (refusalNumber n) 0
 unfolding obtain found
 obtained-last n none = refl
@@ -122,7 +109,7 @@ pub accepted-deck : (ws : List ℕ) → checkedNumber (openDeck ws) ≡ 0 → (d
 accepted-deck ws e = go (openDeck ws) refl e
   where
     go : (o : Checked Deck) → openDeck ws ≡ o → checkedNumber o ≡ 0 → (d : Deck) × (openDeck ws ≡ accepted d)
-    go (refused r) p q = absurd (omega (arith, refusal-number r))
+    go (refused r) p q = absurd (omega (arith, number-positive r))
     go (accepted d) p q = (d, p)
 
 pub accepted-symbols : (ws : List ℕ) (d : Deck) → openDeck ws ≡ accepted d → d .symbols ≡ symbolsOf (symbolWords ws)
@@ -138,15 +125,3 @@ accepted-starts ws e = let d = accepted-deck ws e in steps-open ws (d .0) (d .1)
 pub accepted-query : (ws qs : List ℕ) → checkedNumber (openDeck ws) ≡ 0 → checkedNumber (checkQuery ws qs) ≡ queryNumber ws qs
 unfolding checkQuery andThen
 accepted-query ws qs e = let d = accepted-deck ws e in rw (d .1) (read-number ws qs (d .0) (accepted-symbols ws (d .0) (d .1)))
-
--- A refusal's number is not 0.
-pub refused-number : (why : Why) → numberOf (Refused why) ≡ 0 → ⊥
-refused-number Header = omega arith
-refused-number BadSymbol = omega arith
-refused-number Starts = omega arith
-refused-number LongClause = omega arith
-refused-number BadClause = omega arith
-refused-number LongQuery = omega arith
-refused-number Query = omega arith
-refused-number Store = omega arith
-refused-number Scratch = omega arith

@@ -1,5 +1,5 @@
 -- Symbol words: those that fit are read as the symbols that the code takes them for.
-use Prim.Native.Nat.{ℕ, zero, suc, _-_, _≤_, _<_}
+use Prim.Native.Nat.{ℕ, zero, suc, _-_, _%_, _≤_, _<_}
 use mathlib.Core.Path.{_≡_, refl, ap, ap₂, sym, _∙_}
 use mathlib.Core.Bool.{Bool, true, false, _&&_, _||_, and-eq-true-iff}
 use mathlib.Core.Option.{Option, none, some}
@@ -7,7 +7,7 @@ use mathlib.Core.List.{List, [], _∷_}
 use native.Mathlib.Omega.{arith}
 use lib.ListN.{length, getD, getElem?}
 use lib.Dec.{leb}
-use borrow.Author.Tests.{lt-ltb, le-ltb, leb-true}
+use borrow.Author.Tests.{le-leb, lt-leb, leb-true}
 use Rattle.rules.specs.Syntax.{Symbol, functor, predicate}
 use Rattle.rules.specs.Decks.{readSymbol, readNext, readAll}
 use Rattle.deck.specs.Answers.{found}
@@ -27,13 +27,20 @@ symbol-at [] n h = absurd (omega arith)
 symbol-at (w ∷ ws) zero h = refl
 symbol-at (w ∷ ws) (suc n) h = symbol-at ws n (omega arith)
 
-pub functor-word : (w : ℕ) → w < 256 → symbolOf w ≡ functor w
+-- The kind of a word, as the code tells it.
+pub kind-functor : (w : ℕ) → leb 256 w ≡ false → symbolOf w ≡ functor (w % 256)
 unfolding symbolOf
-functor-word w h = rw (lt-ltb w 256 h, symbolOf)
+kind-functor w e = rw (e, symbolOf)
 
-pub predicate-word : (w : ℕ) → 256 ≤ w → symbolOf w ≡ predicate (w - 256)
+pub kind-predicate : (w : ℕ) → leb 256 w ≡ true → symbolOf w ≡ predicate (w % 256)
 unfolding symbolOf
-predicate-word w h = rw (le-ltb w 256 h, symbolOf)
+kind-predicate w e = rw (e, symbolOf)
+
+functor-word : (w : ℕ) → w < 256 → symbolOf w ≡ functor w
+functor-word w h = let n : w % 256 ≡ w = omega arith in kind-functor w (lt-leb 256 w h) ∙ ap functor n
+
+predicate-word : (w : ℕ) → 256 ≤ w → w ≤ 271 → symbolOf w ≡ predicate (w - 256)
+predicate-word w h l = let n : w % 256 ≡ w - 256 = omega arith in kind-predicate w (le-leb 256 w h) ∙ ap predicate n
 
 -- What is read.
 pub found-symbol : (w : ℕ) → found (readSymbol w) ≡ true → readSymbol w ≡ some (symbolOf w)
@@ -43,8 +50,8 @@ found-symbol w e = go (leb w 15) (leb 256 w && leb w 271) refl refl
     go : (a b : Bool) → leb w 15 ≡ a → (leb 256 w && leb w 271) ≡ b → readSymbol w ≡ some (symbolOf w)
     go true b p q = let l : w ≤ 15 = leb-true w 15 p in rw (p, readSymbol) (ap {B = Option Symbol} some (sym (functor-word w (omega arith))))
     go false true p q =
-        let l : 256 ≤ w = leb-true 256 w (and-eq-true-iff (leb 256 w) (leb w 271) .0 q .0) in
-        rw (p, q, readSymbol) (ap {B = Option Symbol} some (sym (predicate-word w l)))
+        let t = and-eq-true-iff (leb 256 w) (leb w 271) .0 q in
+        rw (p, q, readSymbol) (ap {B = Option Symbol} some (sym (predicate-word w (leb-true 256 w (t .0)) (leb-true w 271 (t .1)))))
     go false false p q = let n : false ≡ true = rw (p, q, readSymbol) at e in absurd (let z : _≡_ {A = ℕ} 0 1 = cc in omega arith)
 
 pub found-symbols : (ws : List ℕ) → found (readAll readSymbol ws) ≡ true → readAll readSymbol ws ≡ some (symbolsOf ws)

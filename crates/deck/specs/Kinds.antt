@@ -1,8 +1,8 @@
 -- What the code takes symbol words and cells for.
-use Prim.Native.Nat.{ℕ, _-_}
+use Prim.Native.Nat.{ℕ, _%_}
 use mathlib.Core.Bool.{true, false}
 use mathlib.Core.List.{List, map}
-use lib.Dec.{ltb}
+use lib.Dec.{leb}
 use Rattle.rules.specs.Syntax.{Symbol, functor, predicate}
 use Rattle.rules.specs.Cells.{Cell, variable, function, positive, negative, invalid}
 use Rattle.deck.specs.declared.kinds.Kind.{Kind}
@@ -10,7 +10,7 @@ use Rattle.deck.specs.declared.kinds.Kind.the-variants.{Variable, Functi
 
 -- The symbol of a word, and of words, whether or not they are symbol words; of those that are, it is the symbol read.
 unfoldable pub symbolOf : ℕ → Symbol
-symbolOf word = elim (ltb word 256) [ true ↦ functor word | false ↦ predicate (word - 256) ]
+symbolOf word = elim (leb 256 word) [ true ↦ predicate (word % 256) | false ↦ functor (word % 256) ]
 
 unfoldable pub symbolsOf : List ℕ → List Symbol
 symbolsOf words = map symbolOf words
@@ -22,11 +22,3 @@ kindOf (function f k) = Function k
 kindOf (positive p k) = Positive k
 kindOf (negative p k) = Negative k
 kindOf invalid = Invalid
-
--- The number of terms that follow a cell.
-abbrev pub arityOf : Kind → ℕ
-arityOf (Variable v) = 0
-arityOf (Function k) = k
-arityOf (Positive k) = k
-arityOf (Negative k) = k
-arityOf Invalid = 0

@@ -3,7 +3,7 @@ ghost use Prim.Native.Nat.{_≤_};
 ghost use mathlib.Core.Path.{_≡_};
 ghost use lib.ListN.{length};
 ghost use Rattle.rules.specs.Decks.{header, headerFits};
-use crate::words::word;
+use words::word;
 
 // Format, number of symbols S, symbol offset, number of clauses C, clause offset, number of term cells T, term offset, total words.
 pub fn fit(deck: &[u16]) -> bool

@@ -2,8 +2,7 @@
 ghost use mathlib.Core.Path.{_≡_};
 ghost use lib.ListN.{getElem?};
 ghost use Rattle.rules.specs.Cells.{readCell, symbolCell, negatedCell};
-ghost use Rattle.deck.specs.Kinds.{symbolsOf, kindOf, arityOf};
-use crate::words::word;
+ghost use Rattle.deck.specs.Kinds.{symbolsOf, kindOf};
 
 // A variable with its number; a functor, a predicate, a negated predicate with its arity; or no cell.
 pub enum Kind {
@@ -35,14 +34,14 @@ pub fn read(symbols: &[u16], cell: u16) -> Kind
 fn symbol(symbols: &[u16], n: usize) -> Kind
     ensures { λ r. ⌜ r ≡ kindOf (symbolCell n (getElem? (symbolsOf (now (symbols .entry))) n)) ⌝ }
 {
-    if symbols.len() <= n {
+    if signature::count(symbols) <= n {
         return Kind::Invalid;
     }
-    let symbol = word(symbols, n);
-    if symbol < 256 {
-        Kind::Function(symbol)
+    let arity = signature::arity(symbols, n);
+    if signature::is_predicate(symbols, n) {
+        Kind::Positive(arity)
     } else {
-        Kind::Positive(symbol - 256)
+        Kind::Function(arity)
     }
 }
 
@@ -52,17 +51,5 @@ fn negated(symbols: &[u16], n: usize) -> Kind
     match symbol(symbols, n) {
         Kind::Positive(arity) => Kind::Negative(arity),
         _ => Kind::Invalid,
-    }
-}
-
-// The number of terms that follow a cell.
-pub fn arity(symbols: &[u16], cell: u16) -> usize
-    ensures { λ r. ⌜ r ≡ arityOf (kindOf (readCell (symbolsOf (now (symbols .entry))) cell)) ⌝ }
-{
-    match read(symbols, cell) {
-        Kind::Function(k) => k,
-        Kind::Positive(k) => k,
-        Kind::Negative(k) => k,
-        _ => 0,
     }
 }

@@ -4,7 +4,7 @@ ghost use mathlib.Core.Bool.{true};
 ghost use lib.ListN.{length};
 ghost use Rattle.rules.specs.Decks.{startsFit, clauseRows, rowsShort};
 use crate::starts;
-use crate::words::word;
+use words::word;
 
 // At most 256 cells each.
 pub fn fit(starts: &[u16], cells: &[u16]) -> bool

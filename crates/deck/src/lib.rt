@@ -12,7 +12,6 @@ pub mod parts;
 mod starts;
 mod symbols;
 mod terms;
-mod words;
 
 // The nine refusals, in the order of their numbers.
 pub enum Refusal {

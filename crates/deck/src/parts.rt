@@ -3,11 +3,9 @@ ghost use Prim.Native.Nat.{_+_, _<_};
 ghost use mathlib.Core.Path.{_≡_};
 ghost use mathlib.Core.Bool.{true};
 ghost use lib.ListN.{length, getD};
-ghost use Rattle.rules.specs.Cells.{readCell};
 ghost use Rattle.rules.specs.Decks.{headerFits, symbolWords, clauseWords, termCells, startsFit};
 ghost use Rattle.deck.specs.Rows.{rowAt};
-ghost use Rattle.deck.specs.Kinds.{symbolsOf, kindOf, arityOf};
-use crate::words::word;
+use words::word;
 
 // The symbol words.
 pub fn symbols(deck: &[u16]) -> &[u16]
@@ -71,21 +69,4 @@ pub fn clause(deck: &[u16], i: usize) -> &[u16]
     ensures { λ r. ⌜ now r ≡ rowAt (termCells (now (deck .entry))) (clauseWords (now (deck .entry))) i ⌝ }
 {
     crate::starts::row(starts(deck), cells(deck), i)
-}
-
-// The cell at a place, counted from the first cell.
-pub fn cell(deck: &[u16], at: usize) -> u16
-    requires { ⌜ headerFits (now deck) ≡ true ⌝ }
-    requires { ⌜ at < length (termCells (now deck)) ⌝ }
-    ensures { λ r. ⌜ r ≡ getD (termCells (now (deck .entry))) at 0 ⌝ }
-{
-    cells(deck)[at]
-}
-
-// The number of terms that follow a cell.
-pub fn arity(deck: &[u16], cell: u16) -> usize
-    requires { ⌜ headerFits (now deck) ≡ true ⌝ }
-    ensures { λ r. ⌜ r ≡ arityOf (kindOf (readCell (symbolsOf (symbolWords (now (deck .entry)))) cell)) ⌝ }
-{
-    crate::kinds::arity(symbols(deck), cell)
 }

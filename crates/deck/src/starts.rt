@@ -5,7 +5,7 @@ ghost use mathlib.Core.Bool.{true};
 ghost use lib.ListN.{length, getD, drop};
 ghost use Rattle.rules.specs.Decks.{startsFit, rising};
 ghost use Rattle.deck.specs.Rows.{rowAt};
-use crate::words::word;
+use words::word;
 
 // The first start is 0, each is greater than the one before and below `total`. With no clause, `total` is 0.
 pub fn fit(starts: &[u16], total: usize) -> bool

@@ -10,9 +10,8 @@ use deck::kinds;
 use deck::kinds::Kind;
 use deck::parts;
 
-// Symbols: a functor of 15 terms and a predicate of 15 terms.
-fn kind(cell: u16) {
-    match kinds::read(&[15, 271], cell) {
+fn kind(symbols: &[u16], cell: u16) {
+    match kinds::read(symbols, cell) {
         Kind::Variable(v) => show::line(b"variable", v as u64),
         Kind::Function(k) => show::line(b"functor", k as u64),
         Kind::Positive(k) => show::line(b"predicate", k as u64),
@@ -21,19 +20,24 @@ fn kind(cell: u16) {
     }
 }
 
+// Symbols: a functor of 15 terms and a predicate of 15 terms.
+fn of_two(cell: u16) {
+    kind(&[15, 271], cell);
+}
+
 pub fn kinds() {
-    kind(0);
-    kind(1);
-    kind(2);
-    kind(16383);
-    kind(16384);
-    kind(16385);
-    kind(16386);
-    kind(32767);
-    kind(32768);
-    kind(33791);
-    kind(33792);
-    kind(65535);
+    of_two(0);
+    of_two(1);
+    of_two(2);
+    of_two(16383);
+    of_two(16384);
+    of_two(16385);
+    of_two(16386);
+    of_two(32767);
+    of_two(32768);
+    of_two(33791);
+    of_two(33792);
+    of_two(65535);
 }
 
 // Where clause i starts and ends, and its number of cells.
@@ -59,12 +63,12 @@ fn each_clause(deck: &[u16])
     }
 }
 
-// What an accepted deck's clauses are, and the number of terms of its third symbol's cell.
+// What an accepted deck's clauses are, and its third symbol.
 pub fn clauses(deck: &[u16]) {
     match deck::open(deck) {
         Checked::Accepted => {
             each_clause(deck);
-            show::line(b"terms after 2", parts::arity(deck, 2) as u64);
+            kind(parts::symbols(deck), 2);
         }
         Checked::Refused(_) => show::line(b"clauses", 0),
     }

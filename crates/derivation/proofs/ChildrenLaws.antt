@@ -22,8 +22,12 @@ use Rattle.resolvents.specs.Deriving.{IsResolvent}
 use Rattle.resolvents.specs.declared.resolve.Resolved.{Resolved}
 use Rattle.resolvents.specs.declared.resolve.Resolved.the-variants.{Nothing, Child, Oversized}
 use Rattle.clauses.specs.Clauses.{ClauseAt, NextAbout}
-use Rattle.derivation.specs.Derives.{Tries, tried, Writes}
+use Rattle.derivation.specs.Derives.{Tries, Writes}
 use Rattle.derivation.specs.declared.Children.the-variants as kinds
+
+-- What a clause gives: nothing unless it is about p.
+unfoldable pub tried : (Clause → Option Goal) → ℕ → Clause → Option Goal
+tried by p c = elim (eqb (c .predicate) p) [ true ↦ by c | false ↦ none ]
 
 -- A clause that is about the predicate, and one that is not.
 module _ (by : Clause → Option Goal) (p : ℕ) where
@@ -31,7 +35,7 @@ module _ (by : Clause → Option Goal) (p : ℕ) where
   unfolding tried
   tried-about c e = rw (eq-eqb (c .predicate) p e, tried)
 
-  pub tried-other : (c : Clause) → (c .predicate ≡ p → ⊥) → tried by p c ≡ none
+  tried-other : (c : Clause) → (c .predicate ≡ p → ⊥) → tried by p c ≡ none
   unfolding tried
   tried-other c e = rw (ne-eqb (c .predicate) p e, tried)
 
@@ -42,7 +46,7 @@ module _ (by : Clause → Option Goal) (p : ℕ) where
   pick true c cs gs e = ap (keepSome (by c)) e
   pick false c cs gs e = e
 
-  pub collect-tried : (cs : List Clause) → collect (tried by p) cs ≡ collect by (clausesAbout p cs)
+  collect-tried : (cs : List Clause) → collect (tried by p) cs ≡ collect by (clausesAbout p cs)
   unfolding collect clausesAbout tried
   collect-tried [] = refl
   collect-tried (c ∷ cs) = pick (eqb (c .predicate) p) c (clausesAbout p cs) (collect (tried by p) cs) (collect-tried cs)

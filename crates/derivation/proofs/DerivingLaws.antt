@@ -28,8 +28,8 @@ pub record Numbers (store cells : List ℕ) (base held answers : ℕ) : Type 0 w
   pub room : held - base - 2 ≤ length cells
 
 module _
-    {ws store cells : List ℕ} {base held answers s e : ℕ} {d : Deck} {g : Goal} {gs : List Goal} {before : List Literal} {p : ℕ} {ts : Terms} {after : List Literal}
-    (x : Deriving ws store cells base held answers s e d g gs before p ts after) where
+    {ws store cells : List ℕ} {base held size answers s e : ℕ} {d : Deck} {g : Goal} {gs : List Goal} {before : List Literal} {p : ℕ} {ts : Terms} {after : List Literal}
+    (x : Deriving ws store cells base held size answers s e d g gs before p ts after) where
   pub numbers : Numbers store cells base held answers
   unfolding goalWords
   numbers =
@@ -39,16 +39,16 @@ module _
         inside = x .holding .inside;
         short = omega (arith, x .begins, short);
         few = omega (arith, x .calls .goal .wide, goal-words g, short);
-        room = x .calls .inside;
+        room = omega (arith, x .sized, x .calls .inside);
       }
 
-  pub tries : (n : ℕ) → n ≡ topGoal g → Tries ws cells (held - base - 2) answers s e n d g before p ts after
+  pub tries : (n : ℕ) → n ≡ topGoal g → Tries ws cells size answers s e n d g before p ts after
   tries n q =
       let c = x .calls in
       record { opens = x .opens; calls = record { inside = c .inside; goal = c .goal; literals = c .literals; span = c .span; fresh = q } }
 
   -- The first goal's words, and those of the others.
-  first-words : writeGoal (marked pending g) ≡ (held - base) ∷ answers ∷ take (held - base - 2) cells
+  first-words : writeGoal (marked pending g) ≡ (held - base) ∷ answers ∷ take size cells
   unfolding writeGoal markNumber
   first-words =
       let w : goalWords g + 4096 * markNumber pending ≡ held - base = omega (arith, x .begins) in
@@ -80,12 +80,13 @@ module _
   abbrev back : List ℕ → List ℕ → List ℕ
   back store₁ cells₁ = sets store₁ base (reverse ((held - base) ∷ answers ∷ take (held - base - 2) cells₁))
 
-  module _ (store₁ cells₁ : List ℕ) (kept : take base store₁ ≡ take base store) (same : take (held - base - 2) cells₁ ≡ take (held - base - 2) cells) (long : length store₁ ≡ length store) where
+  module _ (store₁ cells₁ : List ℕ) (kept : take base store₁ ≡ take base store) (same : take size cells₁ ≡ take size cells) (long : length store₁ ≡ length store) where
     restored : take held (back store₁ cells₁) ≡ take held store
     restored =
         let G = writeGoal (marked pending g) in
         let n : base + length (reverse G) ≡ held = omega (arith, length-reverse G, goal-length (marked pending g), x .begins) in
-        rw (same, ← first-words, take-sets (reverse G) store₁ held base n (omega (arith, x .holding .inside)), kept, rest-words) (sym parts)
+        let z : held - base - 2 ≡ size = omega (arith, x .sized) in
+        rw (z, same, ← first-words, take-sets (reverse G) store₁ held base n (omega (arith, x .holding .inside)), kept, rest-words) (sym parts)
 
     abbrev ds : List Goal
     ds = resolvents (d .clauses) g before p ts after

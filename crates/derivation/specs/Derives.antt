@@ -1,11 +1,9 @@
 -- The step on a selected positive literal.
-use Prim.Native.Nat.{ℕ, _+_, _-_, _≤_, _<_}
+use Prim.Native.Nat.{ℕ, _+_, _≤_, _<_}
 use mathlib.Core.Path.{_≡_}
 use mathlib.Core.Bool.{true, false}
-use mathlib.Core.Option.{Option, none}
 use mathlib.Core.List.{List, _∷_, _++_}
 use lib.ListN.{length, take}
-use lib.Dec.{eqb}
 use Rattle.rules.specs.Terms.{Terms}
 use Rattle.rules.specs.Syntax.{Symbol, Literal, Clause, Deck, Goal, topGoal}
 use Rattle.rules.specs.Refusals.{accepted}
@@ -14,6 +12,7 @@ use Rattle.rules.specs.Goals.{unmarked, goalWords, wordsOf, writeGoals}
 use Rattle.rules.specs.Resolution.{anyOversized}
 use Rattle.resolvents.specs.Deriving.{Calls}
 use Rattle.goals.specs.Store.{Holding}
+use Rattle.clauses.specs.Clauses.{ClauseAt}
 use Rattle.derivation.specs.declared.Children as children
 use Rattle.derivation.specs.declared.Children.the-variants as kinds
 use Rattle.derivation.specs.declared.Derived.{Derived}
@@ -33,9 +32,11 @@ pub record SomeTries (deckWords cells : List ℕ) (size answers s e n : ℕ) : T
   pub after : List Literal
   pub is : Tries deckWords cells size answers s e n deck goal before predicate terms after
 
--- What a clause gives: nothing unless it is about p.
-unfoldable pub tried : (Clause → Option Goal) → ℕ → Clause → Option Goal
-tried by p c = elim (eqb (c .predicate) p) [ true ↦ by c | false ↦ none ]
+-- Clause i is about the literal's predicate.
+abbrev pub AboutCall : List ℕ → List ℕ → ℕ → ℕ → ℕ → ℕ → ℕ → ℕ → Type 0
+AboutCall deckWords cells size answers s e n i =
+    (d : Deck) (g : Goal) (before : List Literal) (p : ℕ) (ts : Terms) (after : List Literal) (c : Clause)
+    → Tries deckWords cells size answers s e n d g before p ts after → ClauseAt (d .clauses) i c → c .predicate ≡ p
 
 -- The goals ds end at a place; where the store reaches that far they stand in it from base on. Or one of them is oversized.
 -- The words before base are as they were.
@@ -45,14 +46,15 @@ Writes store base ds store′ (kinds.To end) =
     × (end ≤ length store → take end store′ ≡ take base store ++ writeGoals (unmarked ds))
 Writes store base ds store′ kinds.Oversized = (anyOversized ds ≡ true) × (take base store′ ≡ take base store)
 
--- The first goal held is g, its words from `base` up to `held`, and its cells stand at the start of `cells`.
-pub record Deriving (deckWords store cells : List ℕ) (base held answers s e : ℕ) (d : Deck) (g : Goal) (gs : List Goal) (before : List Literal) (p : ℕ) (ts : Terms) (after : List Literal) : Type 0 where
+-- The first goal held is g, its words from `base` up to `held`, and its `size` cells stand at the start of `cells`.
+pub record Deriving (deckWords store cells : List ℕ) (base held size answers s e : ℕ) (d : Deck) (g : Goal) (gs : List Goal) (before : List Literal) (p : ℕ) (ts : Terms) (after : List Literal) : Type 0 where
   pub opens : openDeck deckWords ≡ accepted d
   pub holding : Holding (d .symbols) store held (g ∷ gs)
   pub begins : base + goalWords g ≡ held
-  pub calls : Calls (symbolWords deckWords) cells (held - base - 2) answers s e (topGoal g) (d .symbols) g before p ts after
+  pub sized : base + 2 + size ≡ held
+  pub calls : Calls (symbolWords deckWords) cells size answers s e (topGoal g) (d .symbols) g before p ts after
 
-pub record SomeDeriving (deckWords store cells : List ℕ) (base held answers s e : ℕ) : Type 0 where
+pub record SomeDeriving (deckWords store cells : List ℕ) (base held size answers s e : ℕ) : Type 0 where
   pub deck : Deck
   pub first : Goal
   pub goals : List Goal
@@ -60,7 +62,7 @@ pub record SomeDeriving (deckWords store cells : List ℕ) (base held answers s 
   pub predicate : ℕ
   pub terms : Terms
   pub after : List Literal
-  pub is : Deriving deckWords store cells base held answers s e deck first goals before predicate terms after
+  pub is : Deriving deckWords store cells base held size answers s e deck first goals before predicate terms after
 
 -- With the derived goals ds: they replace the goal; or one is oversized, or there is no room for them, and the store's goals are as they were.
 abbrev pub Derives : List Symbol → List ℕ → ℕ → List Goal → List Goal → List ℕ → Derived → Type 0

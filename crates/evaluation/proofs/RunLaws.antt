@@ -1,5 +1,5 @@
 -- The public run put together: which refusal it returns, and an accepted run from what level 0 left.
-use Prim.Native.Nat.{ℕ, zero, suc, _-_, _≤_, _<_}
+use Prim.Native.Nat.{ℕ, zero, suc, _-_, _≤_, _<_, _+_}
 use mathlib.Core.Path.{_≡_, refl, sym, _∙_, ap, subst}
 use mathlib.Core.Bool.{Bool, true, false, _&&_, and-eq-true-iff}
 use mathlib.Core.List.{List, [], _∷_, _++_}
@@ -8,7 +8,7 @@ use lib.ListN.{length, getD, drop, replicate, length-replicate, getD-replicate}
 use lib.Dec.{leb}
 use borrow.Author.Tests.{le-leb, lt-leb, leb-true}
 use Rattle.rules.specs.Syntax.{Literal, Deck}
-use Rattle.rules.specs.Refusals.{Refusal, badHeader, badSymbol, badStarts, longClause, badClause, longQuery, badQuery, badStore, badScratch, refusalNumber, Checked, refused, accepted, andThen, require, checkedNumber}
+use Rattle.rules.specs.Refusals.{Refusal, badStore, badScratch, Checked, refused, accepted, andThen, require, checkedNumber}
 use Rattle.rules.specs.Decks.{openDeck, readQuery, checkQuery, symbolWords}
 use Rattle.rules.specs.Goals.{unmarked, writeGoals, wordsOf, firstGoal}
 use Rattle.rules.specs.Evaluation.{Outcome, evaluate, outcome, stopOf}
@@ -18,61 +18,29 @@ use Rattle.rules.proofs.DeckLaws.{steps-open, query-reads}
 use Rattle.rules.proofs.Demand3.{Accepted, run-accepted}
 use Rattle.deck.specs.declared.Refusal as declared
 use Rattle.deck.specs.declared.Checked as declared-checks
-use Rattle.deck.specs.declared.Refusal.the-variants as kinds
 use Rattle.deck.specs.declared.Checked.the-variants as answer
-use Rattle.deck.specs.Answers.{numberOf}
+use Rattle.deck.specs.Answers.{numberOf, refusalFor}
+use Rattle.deck.proofs.RefusalLaws.{number-positive, number-injective, refused-number}
 use Rattle.report.specs.Reports.{stopOf as stopOf′}
 use Rattle.report.specs.declared.Report.{Report}
+use Rattle.matching.specs.Bindings as bindings
+use Rattle.matching.specs.Tables.{bindOf, marksOf}
+use Rattle.matching.proofs.TableLaws.{part-inside, part-at}
 use Rattle.resolvents.specs.Deriving.{Rows}
 use Rattle.clauses.specs.Clauses.{Blank}
 use Rattle.top_level.specs.Top.{Queries, Topped}
-use Rattle.evaluation.specs.Results.{checkSizes, firstRefusal, refusalFor, resultOf, slices}
+use Rattle.evaluation.specs.Results.{checkSizes, firstRefusal, resultOf, slices}
 use Rattle.evaluation.specs.declared.Ran.the-variants as kind
 
 -- THE NUMBERS OF REFUSALS determine them.
-abbrev numbered : ℕ → Refusal
-numbered zero = badHeader
-numbered (suc zero) = badHeader
-numbered (suc (suc zero)) = badSymbol
-numbered (suc (suc (suc zero))) = badStarts
-numbered (suc (suc (suc (suc zero)))) = longClause
-numbered (suc (suc (suc (suc (suc zero))))) = badClause
-numbered (suc (suc (suc (suc (suc (suc zero)))))) = longQuery
-numbered (suc (suc (suc (suc (suc (suc (suc zero))))))) = badQuery
-numbered (suc (suc (suc (suc (suc (suc (suc (suc zero)))))))) = badStore
-numbered (suc (suc (suc (suc (suc (suc (suc (suc (suc n))))))))) = badScratch
-
-number-of : (r : Refusal) → (0 < refusalNumber r) × (numbered (refusalNumber r) ≡ r)
-number-of badHeader = (omega arith, refl)
-number-of badSymbol = (omega arith, refl)
-number-of badStarts = (omega arith, refl)
-number-of longClause = (omega arith, refl)
-number-of badClause = (omega arith, refl)
-number-of longQuery = (omega arith, refl)
-number-of badQuery = (omega arith, refl)
-number-of badStore = (omega arith, refl)
-number-of badScratch = (omega arith, refl)
-
-pub number-for : (why : declared.Refusal) → numberOf (answer.Refused why) ≡ refusalNumber (refusalFor why)
-number-for kinds.Header = refl
-number-for kinds.Symbol = refl
-number-for kinds.Starts = refl
-number-for kinds.LongClause = refl
-number-for kinds.Clause = refl
-number-for kinds.LongQuery = refl
-number-for kinds.Query = refl
-number-for kinds.Store = refl
-number-for kinds.Scratch = refl
-
 module _ {A : Type 0} where
   pub number-accepts : (c : Checked A) → 0 ≡ checkedNumber c → (a : A) × (c ≡ accepted a)
-  number-accepts (refused n) e = absurd (omega (arith, number-of n .0))
+  number-accepts (refused n) e = absurd (omega (arith, number-positive n))
   number-accepts (accepted a) e = (a, refl)
 
   pub number-refuses : (why : declared.Refusal) (c : Checked A) → numberOf (answer.Refused why) ≡ checkedNumber c → c ≡ refused (refusalFor why)
-  number-refuses why (refused n) e =
-      ap refused (sym (number-of n .1) ∙ ap numbered (sym e ∙ number-for why) ∙ number-of (refusalFor why) .1)
-  number-refuses why (accepted a) e = absurd (omega (arith, number-for why, number-of (refusalFor why) .0))
+  number-refuses why (refused n) e = ap refused (number-injective n (refusalFor why) (sym e))
+  number-refuses why (accepted a) e = absurd (refused-number why e)
 
 -- CHECKS ONE AFTER THE OTHER
 module _ {A B : Type 0} where
@@ -188,20 +156,17 @@ zeros zero w = refl
 zeros (suc n) zero = refl
 zeros (suc n) (suc w) = zeros n w
 
-pub blank-rows : (n m : ℕ) → n ≡ 1280 → m ≡ 1024
-    → Rows (replicate n 65535) (replicate n 0) (replicate n 0) (replicate n 65535) (replicate n 0) (replicate m 0)
-blank-rows n m e f =
+pub blank-table : (n : ℕ) → n ≡ 3840 → (length (replicate {A = ℕ} n 0) ≡ 3840) × ((w : ℕ) → _≡_ {A = ℕ} (getD (replicate n 0) w 0) 0)
+blank-table n e = (length-replicate {A = ℕ} n 0 ∙ e, zeros n)
+
+pub blank-rows : (n : ℕ) (table : List ℕ) → n ≡ 3584 → length table ≡ 3840 → bindings.Blank (bindOf table) (marksOf table) → Rows table (replicate n 65535)
+blank-rows n table e l b =
     let few = length-replicate {A = ℕ} n 65535 in
-    let none = length-replicate {A = ℕ} n 0 in
     record {
-      blank = record { free = λ v h. getD-replicate {A = ℕ} n v 65535 0 (omega arith); unmarked = zeros n };
-      unnamed = λ v h. getD-replicate {A = ℕ} n v 65535 0 (omega arith);
-      bindLength = few ∙ e;
-      trailLength = none ∙ e;
-      marksLength = none ∙ e;
-      namesLength = few ∙ e;
-      orderLength = none ∙ e;
-      childLength = length-replicate {A = ℕ} m 0 ∙ f;
+      blank = b;
+      unnamed = λ v h. part-at 1024 1280 (replicate n 65535) h ∙ getD-replicate {A = ℕ} n (1024 + v) 65535 0 (omega (arith, part-inside 1024 1280 (replicate n 65535) h .1));
+      tableLength = l;
+      draftLength = few ∙ e;
     }
 
 pub blank-index : (n : ℕ) → n ≡ 12288 → Blank (replicate n 65535)

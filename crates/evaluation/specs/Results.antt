@@ -6,8 +6,7 @@ use lib.Dec.{leb}
 use Rattle.rules.specs.Refusals as rules
 use Rattle.rules.specs.Run as run
 use Rattle.report.specs.Reports.{reportOf}
-use Rattle.deck.specs.declared.Refusal.{Refusal}
-use Rattle.deck.specs.declared.Refusal.the-variants.{Header, Symbol as BadSymbol, Starts, LongClause, Clause, LongQuery, Query, Store, Scratch}
+use Rattle.deck.specs.Answers.{refusalFor}
 use Rattle.deck.specs.declared.Checked.{Checked}
 use Rattle.deck.specs.declared.Checked.the-variants.{Accepted, Refused as Rejected}
 use Rattle.evaluation.specs.declared.Ran.{Ran}
@@ -22,18 +21,7 @@ abbrev pub firstRefusal : Checked → Checked → Checked
 firstRefusal Accepted second = second
 firstRefusal (Rejected why) second = Rejected why
 
--- The refusals of the code as those of the rules, and the result of a run.
-abbrev pub refusalFor : Refusal → rules.Refusal
-refusalFor Header = rules.badHeader
-refusalFor BadSymbol = rules.badSymbol
-refusalFor Starts = rules.badStarts
-refusalFor LongClause = rules.longClause
-refusalFor Clause = rules.badClause
-refusalFor LongQuery = rules.longQuery
-refusalFor Query = rules.badQuery
-refusalFor Store = rules.badStore
-refusalFor Scratch = rules.badScratch
-
+-- The result of a run.
 abbrev pub resultOf : Ran → rules.Checked run.Report
 resultOf (Refused why) = rules.refused (refusalFor why)
 resultOf (Done r) = rules.accepted (reportOf r)

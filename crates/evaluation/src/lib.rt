@@ -81,13 +81,10 @@ fn accepted(
     requires { ⌜ checkedNumber (run (now deck) (now query) budget (length (now answers)) (length (now store)) (length (now scratch))) ≡ 0 ⌝ }
     ensures { λ r. ⌜ Rattle.rules.specs.Run.Ran (now (deck .entry)) (now (query .entry)) budget (slices (now (answers .entry)) (now (store .entry)) (now (scratch .entry))) (resultOf (Ran.Done r)) (slices (now (answers .exit)) (now (store .exit)) (now (scratch .exit))) ⌝ }
 {
-    let mut bind = [65535u16; 1280];
-    let mut trail = [0u16; 1280];
-    let mut marks = [0u16; 1280];
-    let mut names = [65535u16; 1280];
-    let mut order = [0u16; 1280];
-    let mut child = [0u16; 1024];
+    let mut table = [0u16; 3840];
+    let mut draft = [65535u16; 3584];
     let mut index = [65535u16; 12288];
+    matching::bindings::clear(&mut table);
     clauses::fill_index(deck, &mut index);
     let start = top_level::first(query, store);
     top_level::top(
@@ -97,12 +94,8 @@ fn accepted(
         answers,
         store,
         scratch,
-        &mut bind,
-        &mut trail,
-        &mut marks,
-        &mut names,
-        &mut order,
-        &mut child,
+        &mut table,
+        &mut draft,
         &index,
     )
 }

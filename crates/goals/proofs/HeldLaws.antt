@@ -32,7 +32,7 @@ held-words {store = store} {held} {gs} h =
     sym (mirror-length store (writeGoals (unmarked gs)) held (h .inside) (h .words)) ∙ goals-length (unmarked gs) ∙ unmarked-words gs
 
 -- What lies below the words xs on top.
-pub below-first : (s xs zs : List ℕ) (held x : ℕ) → held ≤ length s → length xs ≡ x → take held s ≡ reverse (xs ++ zs) → take (held - x) s ≡ reverse zs
+below-first : (s xs zs : List ℕ) (held x : ℕ) → held ≤ length s → length xs ≡ x → take held s ≡ reverse (xs ++ zs) → take (held - x) s ≡ reverse zs
 below-first s xs zs held x k l h =
     let n : length (reverse zs) ≡ held - x = length-reverse zs ∙ omega (arith, mirror-length s (xs ++ zs) held k h, length-append xs zs) in
     sym (take-take (held - x) held s (omega arith)) ∙ ap (take (held - x)) (h ∙ reverse-append xs zs) ∙ take-at (reverse zs) (reverse xs) (held - x) n
@@ -45,7 +45,7 @@ module _ {S : List Symbol} {store : List ℕ} {held : ℕ} {g : Goal} {gs : List
   pub first-inside : goalWords g + wordsOf gs ≡ held
   first-inside = sym (held-words h)
 
-  pub first-least : 2 ≤ goalWords g
+  first-least : 2 ≤ goalWords g
   first-least = omega (arith, cells-length g)
 
   pub first-length : getD store (held - 1) 0 ≡ goalWords g

@@ -8,12 +8,12 @@ use lib.ListN.{length, getD, take, drop, set, length-append, length-drop, length
 use lib.Seq.{sets, length-take-le, take-take, take-set-lt, set-at, set-set, drop-cons, drop-drop}
 use Rattle.words.proofs.StoreLaws.{sets-append, down, mirror-length, removed}
 
-pub first-more : (l xs : List ℕ) (at k x : ℕ) → at + length xs ≡ k → set (sets l at (reverse xs)) k x ≡ sets l at (reverse (x ∷ xs))
+first-more : (l xs : List ℕ) (at k x : ℕ) → at + length xs ≡ k → set (sets l at (reverse xs)) k x ≡ sets l at (reverse (x ∷ xs))
 first-more l xs at k x e =
     let n : k ≡ at + length (reverse xs) = omega (arith, length-reverse xs) in
     rw (reverse-cons x xs, n) (sets-append (reverse xs) (x ∷ []) l at)
 
-pub first-changed : (l xs : List ℕ) (at k x y : ℕ) → at + length xs ≡ k → set (sets l at (reverse (y ∷ xs))) k x ≡ sets l at (reverse (x ∷ xs))
+first-changed : (l xs : List ℕ) (at k x y : ℕ) → at + length xs ≡ k → set (sets l at (reverse (y ∷ xs))) k x ≡ sets l at (reverse (x ∷ xs))
 first-changed l xs at k x y e =
     ap (λ (r : List ℕ). set r k x) (sym (first-more l xs at k y e)) ∙ set-set (sets l at (reverse xs)) k y x ∙ first-more l xs at k x e
 

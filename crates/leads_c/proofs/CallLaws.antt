@@ -1,17 +1,16 @@
 -- The call from C, from what the public run promises.
 use Prim.Native.Nat.{ℕ}
-use mathlib.Core.Path.{_≡_, refl, _∙_, subst}
+use mathlib.Core.Path.{_≡_, refl, subst}
 use mathlib.Core.List.{List}
-use Rattle.rules.specs.Refusals.{refusalNumber, Checked, refused, accepted}
+use Rattle.rules.specs.Refusals.{refused, accepted}
 use Rattle.rules.specs.Evaluation.{stopNumber}
 use Rattle.rules.specs.Run as run
 use Rattle.report.specs.Reports.{stopOf, reportOf}
 use Rattle.report.specs.declared.Report.{Report}
-use Rattle.deck.specs.Answers.{numberOf}
+use Rattle.deck.specs.Answers.{numberOf, refusalFor}
 use Rattle.deck.specs.declared.Checked.the-variants as checked
 use Rattle.deck.specs.declared.Refusal.{Refusal}
-use Rattle.evaluation.proofs.RunLaws.{number-for}
-use Rattle.evaluation.specs.Results.{refusalFor, resultOf}
+use Rattle.evaluation.specs.Results.{resultOf}
 use Rattle.evaluation.specs.declared.Ran.{Ran}
 use Rattle.evaluation.specs.declared.Ran.the-variants.{Refused, Done}
 use Rattle.leads_c.specs.Calls.{Numbers, numbers, Called}
@@ -21,7 +20,7 @@ module _ {deck query : List ℕ} {budget : ℕ} {entry exit : run.Slices} {r : R
   called-refused why n before e f = record {
     result = refused (refusalFor why);
     ran = subst (λ (x : Ran). run.Ran deck query budget entry (resultOf x) exit) e ran;
-    tells = (f ∙ number-for why, refl);
+    tells = (f, refl);
   }
 
   pub called-done : (report : Report) (stop : ℕ) (before : Numbers) → r ≡ Done report → stop ≡ stopNumber (stopOf (report .stop))

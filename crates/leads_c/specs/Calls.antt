@@ -6,9 +6,6 @@ use Rattle.rules.specs.Refusals.{refusalNumber, Checked, refused, accepted}
 use Rattle.rules.specs.Evaluation.{stopNumber}
 use Rattle.rules.specs.Run.{Report, Slices, Ran}
 
-abbrev pub lent : List ℕ → List ℕ → List ℕ → Slices
-lent answers store scratch = record { answers = answers; store = store; scratch = scratch }
-
 pub record Numbers : Type 0 where
   pub stop : ℕ
   pub steps : ℕ

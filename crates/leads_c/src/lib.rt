@@ -2,7 +2,8 @@
 ghost use mathlib.Core.Path.{_≡_};
 ghost use Rattle.rules.specs.Refusals.{checkedNumber};
 ghost use Rattle.rules.specs.Decks.{openDeck, checkQuery};
-ghost use Rattle.leads_c.specs.Calls.{Called, numbers, lent};
+ghost use Rattle.evaluation.specs.Results.{slices};
+ghost use Rattle.leads_c.specs.Calls.{Called, numbers};
 use deck::Checked;
 use evaluation::Ran;
 
@@ -34,7 +35,7 @@ pub extern "C" fn leads_run(
     pending: &mut u32,
     parked: &mut u32,
 ) -> u32
-    ensures { λ r. ⌜ Called (now (deck .entry)) (now (query .entry)) budget (lent (now (answers .entry)) (now (store .entry)) (now (scratch .entry))) (numbers (now (stop .entry)) (now (steps .entry)) (now («answer_count» .entry)) (now (pending .entry)) (now (parked .entry))) r (lent (now (answers .exit)) (now (store .exit)) (now (scratch .exit))) (numbers (now (stop .exit)) (now (steps .exit)) (now («answer_count» .exit)) (now (pending .exit)) (now (parked .exit))) ⌝ }
+    ensures { λ r. ⌜ Called (now (deck .entry)) (now (query .entry)) budget (slices (now (answers .entry)) (now (store .entry)) (now (scratch .entry))) (numbers (now (stop .entry)) (now (steps .entry)) (now («answer_count» .entry)) (now (pending .entry)) (now (parked .entry))) r (slices (now (answers .exit)) (now (store .exit)) (now (scratch .exit))) (numbers (now (stop .exit)) (now (steps .exit)) (now («answer_count» .exit)) (now (pending .exit)) (now (parked .exit))) ⌝ }
 {
     match evaluation::run(deck, query, budget, answers, store, scratch) {
         Ran::Refused(why) => deck::number(Checked::Refused(why)),

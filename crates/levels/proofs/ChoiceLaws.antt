@@ -106,16 +106,17 @@ module _ (deckWords : List ℕ) {store row : List ℕ} {held w a : ℕ} (c : Cop
     wide = c .answers ∙ first-answers h;
   }
 
-  pub to-derive : (s e : ℕ) (k : Positive g s e) → Deriving deckWords store row (held - w) held a s e d g gs (k .before) (k .predicate) (k .terms) (k .after)
+  pub to-derive : (s e : ℕ) (k : Positive g s e) → Deriving deckWords store row (held - w) held (w - 2) a s e d g gs (k .before) (k .predicate) (k .terms) (k .after)
   to-derive s e k =
       let chosen : Selected (g .literals) (positive (k .before) (k .predicate) (k .terms) (k .after)) = rw (k .selects) at (select-selected (g .literals)) in
       record {
         opens = o;
         holding = h;
         begins = omega (arith, size, held-words h);
+        sized = omega (arith, size, held-words h, cells-length g);
         calls = record {
           inside = omega (arith, c .long);
-          goal = goal-row (symbolWords deckWords) (held - (held - w) - 2) refl (omega (arith, size, held-words h));
+          goal = goal-row (symbolWords deckWords) (w - 2) refl refl;
           literals = chosen;
           span = k .span;
           fresh = refl;

@@ -66,7 +66,7 @@ cut-flag Store outer left g gs l p s = refl
 module _ {d : Deck} {below room : ℕ} {gs : List Goal} {budget used : ℕ} {store : List ℕ} {held steps : ℕ} {parked : Bool}
     (r : Goes d below room gs budget used store held steps parked) where
   -- NOTHING IS HELD: the level is finished.
-  pub goes-finished : held ≤ 0 → (v : Verdict) → verdictFor v ≡ finishedBy parked → Replied d below room gs budget used (record { verdict = v; steps = steps })
+  pub goes-finished : held ≤ 0 → (v : Verdict) → verdictFor v ≡ finishedBy parked → Replied d below room gs budget used (record { verdict = v; used = steps })
   unfolding replyOf
   goes-finished z v e =
       record {
@@ -91,7 +91,7 @@ module _ {d : Deck} {below room : ℕ} {gs : List Goal} {budget used : ℕ} {sto
     some-first deckWords o = record { deck = d; first = first .first; goals = first .rest; opens = o; holding = first-held }
 
     -- The budget is used up.
-    pub goes-spent : steps ≡ budget → Replied d below room gs budget used (record { verdict = Interrupted Budget; steps = steps })
+    pub goes-spent : steps ≡ budget → Replied d below room gs budget used (record { verdict = Interrupted Budget; used = steps })
     unfolding replyOf verdictOf
     goes-spent e =
         let z : budget - steps ≡ 0 = omega arith in
@@ -112,7 +112,7 @@ module _ {d : Deck} {below room : ℕ} {gs : List Goal} {budget used : ℕ} {sto
     stands storeSize outer f = record { pending = first .same; room = omega (arith, r .size) }
 
     -- It had no literals.
-    pub goes-succeeds : (store′ : List ℕ) → steps < budget → Took store′ Empty → Replied d below room gs budget used (record { verdict = Succeeds; steps = steps + 1 })
+    pub goes-succeeds : (store′ : List ℕ) → steps < budget → Took store′ Empty → Replied d below room gs budget used (record { verdict = Succeeds; used = steps + 1 })
     unfolding replyOf verdictOf
     goes-succeeds store′ pays t =
         record {
@@ -124,7 +124,7 @@ module _ {d : Deck} {below room : ℕ} {gs : List Goal} {budget used : ℕ} {sto
         }
 
     -- The run stops.
-    pub goes-interrupted : (store′ : List ℕ) (stop : Stop) (k : ℕ) → Took store′ (Stopped stop k) → Replied d below room gs budget used (record { verdict = Interrupted stop; steps = k })
+    pub goes-interrupted : (store′ : List ℕ) (stop : Stop) (k : ℕ) → Took store′ (Stopped stop k) → Replied d below room gs budget used (record { verdict = Interrupted stop; used = k })
     unfolding replyOf
     goes-interrupted store′ stop k t =
         let u = t (first .first) (first .rest) first-held in

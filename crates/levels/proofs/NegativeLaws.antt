@@ -73,7 +73,7 @@ module _ (g : Goal) (before : List Literal) (l : Literal) (after : List Literal)
 
   module _ (s e′ : ℕ) (span : Spans (g .answers) before l s e′) (rest : List ℕ) where
     -- The words with the cells from s up to e′ taken out.
-    pub words-without : let ws = pendingWords g ++ rest in
+    words-without : let ws = pendingWords g ++ rest in
         (goalWords g - (e′ - s)) ∷ (take (s + 1) (drop 1 ws) ++ drop (e′ + 2) ws) ≡ pendingWords withoutLiteral ++ rest
     words-without =
         let ws = pendingWords g ++ rest in
@@ -145,7 +145,7 @@ atom-size p ts = goal-words (atomGoal p ts) ∙ omega arith
 
 module _ {cells : List ℕ} {s e : ℕ} {S : List Symbol} {p : ℕ} {ts : Terms} (a : Asking cells s e S p ts) where
   -- As many cells as the literal has, its predicate, and its terms.
-  pub asked-size : e - s ≡ sizes ts + 1
+  asked-size : e - s ≡ sizes ts + 1
   asked-size =
       sym (length-take-le (e - s) (drop s cells) (omega (arith, length-drop s cells, a .order, a .inside)))
       ∙ ap length (a .cells)
@@ -165,13 +165,13 @@ module _ {cells : List ℕ} {s e : ℕ} {S : List Symbol} {p : ℕ} {ts : Terms}
   asked-inside = (omega (arith, asked-size), a .inside, asked-predicate, omega (arith, asked-size, atom-size p ts, a .short))
 
   -- The words that are written for it.
-  pub asked-words : (e - s + 2) ∷ 0 ∷ (getD cells s 0 - 16384) ∷ take (e - s - 1) (drop (s + 1) cells) ≡ writeGoals (unmarked (atomGoal p ts ∷ []))
+  asked-words : (e - s + 2) ∷ 0 ∷ (getD cells s 0 - 16384) ∷ take (e - s - 1) (drop (s + 1) cells) ≡ writeGoals (unmarked (atomGoal p ts ∷ []))
   asked-words =
       let w : e - s + 2 ≡ sizes ts + 3 = omega (arith, asked-size) in
       let q : getD cells s 0 - 16384 ≡ p = omega (arith, asked-parts .0) in
       rw (w, q, asked-parts .1) (sym (atom-words p ts))
 
-  pub asked-wf : WfGoal S (atomGoal p ts)
+  asked-wf : WfGoal S (atomGoal p ts)
   unfolding numbered
   asked-wf = record {
     answers = tt;

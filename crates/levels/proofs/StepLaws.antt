@@ -17,11 +17,11 @@ use Rattle.levels.specs.Levels.{outside, Stands, Onward, Halts, Decides}
 
 -- WHAT IS DONE WITH A GOAL
 -- A goal with a selected literal has literals.
-pub positive-some : {before after : List Literal} {p : ℕ} {ts : Terms} (ls : List Literal) → select ls ≡ positive before p ts after → ls ≡ [] → ⊥
+positive-some : {before after : List Literal} {p : ℕ} {ts : Terms} (ls : List Literal) → select ls ≡ positive before p ts after → ls ≡ [] → ⊥
 unfolding select
 positive-some ls e n = let z : _≡_ {A = ℕ} 0 1 = cc (ap select n) in omega arith
 
-pub negative-some : {before after : List Literal} {p : ℕ} {ts : Terms} (ls : List Literal) → select ls ≡ negative before p ts after → ls ≡ [] → ⊥
+negative-some : {before after : List Literal} {p : ℕ} {ts : Terms} (ls : List Literal) → select ls ≡ negative before p ts after → ls ≡ [] → ⊥
 unfolding select
 negative-some ls e n = let z : _≡_ {A = ℕ} 0 1 = cc (ap select n) in omega arith
 

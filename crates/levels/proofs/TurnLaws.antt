@@ -107,19 +107,19 @@ module _ (d : Deck) (below : ℕ) {store : List ℕ} {held s e budget steps : �
   room : goalWords g + wordsOf gs + goalWords (atomGoal p ts) ≤ length store
   room = omega (arith, held-words (n .holding), a .fits)
 
-  says : Decides (d .clauses) below (length store - (goalWords g + wordsOf gs)) (atomGoal p ts ∷ []) (budget - (steps + 1)) (verdictFor (r .verdict)) (budget - r .steps)
+  says : Decides (d .clauses) below (length store - (goalWords g + wordsOf gs)) (atomGoal p ts ∷ []) (budget - (steps + 1)) (verdictFor (r .verdict)) (budget - r .used)
   says = rw (held-words (n .holding)) at (a .replied .decides)
 
   -- Proved: the goal is dropped.
   pub settled-succeeds : (size : ℕ) → size ≡ getD store (held - 1) 0 → r .verdict ≡ Succeeds
-      → Turned d (suc below) store held budget steps g gs store (More (held - size) (r .steps))
+      → Turned d (suc below) store held budget steps g gs store (More (held - size) (r .used))
   settled-succeeds size l v = (
     omega (arith, a .replied .later),
     a .replied .within,
     (
       gs,
       rw (l, first-length (n .holding)) (rest-held (n .holding)),
-      proves (d .clauses) below (length store) g gs budget steps (a .pays) p ts (before ++ after) act room (budget - r .steps) (rw v at says),
+      proves (d .clauses) below (length store) g gs budget steps (a .pays) p ts (before ++ after) act room (budget - r .used) (rw v at says),
     ),
   )
 
@@ -127,31 +127,31 @@ module _ (d : Deck) (below : ℕ) {store : List ℕ} {held s e budget steps : �
   pub settled-fails : (store′ : List ℕ) → length store′ ≡ length store
       → take (held - (e - s)) store′
       ≡ reverse ((getD store (held - 1) 0 - (e - s)) ∷ (take (s + 1) (drop 1 (reverse (take held store))) ++ drop (e + 2) (reverse (take held store))))
-      → r .verdict ≡ Fails → Turned d (suc below) store held budget steps g gs store′ (More (held - (e - s)) (r .steps))
+      → r .verdict ≡ Fails → Turned d (suc below) store held budget steps g gs store′ (More (held - (e - s)) (r .used))
   settled-fails store′ l w v = (
     omega (arith, a .replied .later),
     a .replied .within,
     (
       record { answers = g .answers; literals = before ++ after } ∷ gs,
       removed-held n l w,
-      disproves (d .clauses) below (length store) g gs budget steps (a .pays) p ts (before ++ after) act room (budget - r .steps) (rw v at says),
+      disproves (d .clauses) below (length store) g gs budget steps (a .pays) p ts (before ++ after) act room (budget - r .used) (rw v at says),
     ),
   )
 
   -- Neither: the goal is parked.
-  pub settled-unsettled : r .verdict ≡ Unsettled → Turned d (suc below) store held budget steps g gs store (Park marks.Undecided (r .steps))
+  pub settled-unsettled : r .verdict ≡ Unsettled → Turned d (suc below) store held budget steps g gs store (Park marks.Undecided (r .used))
   settled-unsettled v = (
     omega (arith, a .replied .later),
     a .replied .within,
     refl,
-    unsettles (d .clauses) below (length store) g gs budget steps (a .pays) p ts (before ++ after) act room (budget - r .steps) (rw v at says),
+    unsettles (d .clauses) below (length store) g gs budget steps (a .pays) p ts (before ++ after) act room (budget - r .used) (rw v at says),
   )
 
   -- The run stops.
-  pub settled-interrupted : (stop : Stop) → r .verdict ≡ Interrupted stop → Turned d (suc below) store held budget steps g gs store (Stopped stop (r .steps))
+  pub settled-interrupted : (stop : Stop) → r .verdict ≡ Interrupted stop → Turned d (suc below) store held budget steps g gs store (Stopped stop (r .used))
   settled-interrupted stop v = (
     omega (arith, a .replied .later),
     a .replied .within,
     refl,
-    interrupts (d .clauses) below (length store) g gs budget steps (a .pays) p ts (before ++ after) act room (budget - r .steps) (stopOf stop) (rw v at says),
+    interrupts (d .clauses) below (length store) g gs budget steps (a .pays) p ts (before ++ after) act room (budget - r .used) (stopOf stop) (rw v at says),
   )

@@ -80,9 +80,9 @@ Decides clauses below room gs left verdict left′ =
     ≡ rules.reply verdict left′
 
 pub record Replied (d : Deck) (below room : ℕ) (gs : List Goal) (budget steps : ℕ) (r : Reply) : Type 0 where
-  pub later : steps ≤ r .steps
-  pub within : r .steps ≤ budget
-  pub decides : Decides (d .clauses) below room gs (budget - steps) (verdictFor (r .verdict)) (budget - r .steps)
+  pub later : steps ≤ r .used
+  pub within : r .used ≤ budget
+  pub decides : Decides (d .clauses) below room gs (budget - steps) (verdictFor (r .verdict)) (budget - r .used)
 
 -- The cells from s up to e are those of the negative literal not p(ts), which has no variables.
 pub record Asking (row : List ℕ) (s e : ℕ) (S : List Symbol) (p : ℕ) (ts : Terms) : Type 0 where

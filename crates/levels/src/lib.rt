@@ -18,6 +18,7 @@ use goals::Mark;
 use goals::ask;
 use goals::remove;
 use report::Stop;
+use resolvents::resolve::Call;
 use resolvents::select::Selected;
 use resolvents::select::select_literal;
 use words::wide;
@@ -41,7 +42,13 @@ pub enum Verdict {
 
 pub struct Reply {
     pub verdict: Verdict,
-    pub steps: u32,
+    pub used: u32,
+}
+
+// The budget, and the steps used so far over all levels.
+pub struct Steps {
+    pub budget: u32,
+    pub used: u32,
 }
 
 // One step on the first goal of the words held.
@@ -50,71 +57,49 @@ pub fn take_step(
     below: usize,
     store: &mut [u16],
     held: usize,
-    budget: u32,
-    steps: u32,
+    steps: Steps,
     cells: &mut [u16],
-    bind: &mut [u16],
-    trail: &mut [u16],
-    marks: &mut [u16],
-    names: &mut [u16],
-    order: &mut [u16],
-    child: &mut [u16],
+    table: &mut [u16],
+    draft: &mut [u16],
     index: &[u16],
 ) -> Turn
     requires { ⌜ SomeFirst (now deck) (now store) held ⌝ }
-    requires { ⌜ Rows (now bind) (now trail) (now marks) (now names) (now order) (now child) ⌝ }
-    requires { ⌜ (8192 ≤ length (now cells)) × (steps < budget) × Indexed (now deck) (now index) ⌝ }
-    ensures { λ r. ⌜ ((d : Deck) (g : Goal) (gs : List Goal) → openDeck (now (deck .entry)) ≡ accepted d → Holding (d .symbols) (now (store .entry)) held (g ∷ gs) → Turned d below (now (store .entry)) held budget steps g gs (now (store .exit)) r) ⌝ }
-    ensures { λ _. ⌜ Rows (now (bind .exit)) (now (trail .exit)) (now (marks .exit)) (now (names .exit)) (now (order .exit)) (now (child .exit)) ⌝ }
+    requires { ⌜ Rows (now table) (now draft) ⌝ }
+    requires { ⌜ (8192 ≤ length (now cells)) × (steps .used < steps .budget) × Indexed (now deck) (now index) ⌝ }
+    ensures { λ r. ⌜ ((d : Deck) (g : Goal) (gs : List Goal) → openDeck (now (deck .entry)) ≡ accepted d → Holding (d .symbols) (now (store .entry)) held (g ∷ gs) → Turned d below (now (store .entry)) held (steps .budget) (steps .used) g gs (now (store .exit)) r) ⌝ }
+    ensures { λ _. ⌜ Rows (now (table .exit)) (now (draft .exit)) ⌝ }
 {
     let length = wide(store[held - 1]);
     let answers = wide(store[held - 2]);
-    let size = length - 2;
-    if answers == size {
+    let len = length - 2;
+    if answers == len {
         return Turn::Empty;
     }
-    words::copy_mirrored(store, held - 2, size, cells, 0);
-    match select_literal(&cells[0..size], parts::symbols(deck), answers) {
-        Selected::Nothing => Turn::Park(Mark::Floundered, steps + 1),
+    words::copy_mirrored(store, held - 2, len, cells, 0);
+    let used = steps.used;
+    match select_literal(&cells[0..len], parts::symbols(deck), answers) {
+        Selected::Nothing => Turn::Park(Mark::Floundered, used + 1),
         Selected::Positive(s, e) => {
             let base = held - length;
-            let derived = derive(
-                deck,
-                store,
-                base,
-                held,
-                answers,
-                s,
-                e,
-                cells,
-                bind,
-                trail,
-                marks,
-                names,
-                order,
-                child,
-                index,
-            );
-            expanded(derived, steps)
+            let call = Call { len, answers, s, e };
+            let derived = derive(deck, store, base, held, call, cells, table, draft, index);
+            expanded(derived, used)
         }
-        Selected::Negative(s, e) => negate(
-            deck,
-            below,
-            store,
-            held,
-            s,
-            e,
-            budget,
-            steps,
-            cells,
-            bind,
-            trail,
-            marks,
-            names,
-            order,
-            child,
-            index,
-        ),
+        Selected::Negative(s, e) => {
+            let call = Call { len, answers, s, e };
+            negate(
+                deck,
+                below,
+                store,
+                held,
+                call,
+                steps,
+                cells,
+                table,
+                draft,
+                index,
+            )
+        }
     }
 }
 
@@ -130,53 +115,48 @@ fn expanded(derived: Derived, steps: u32) -> Turn
     }
 }
 
-// A step on a selected negative literal, at the cells from s up to e.
+// A step on a selected negative literal.
 fn negate(
     deck: &[u16],
     below: usize,
     store: &mut [u16],
     held: usize,
-    s: usize,
-    e: usize,
-    budget: u32,
-    steps: u32,
+    call: Call,
+    steps: Steps,
     cells: &mut [u16],
-    bind: &mut [u16],
-    trail: &mut [u16],
-    marks: &mut [u16],
-    names: &mut [u16],
-    order: &mut [u16],
-    child: &mut [u16],
+    table: &mut [u16],
+    draft: &mut [u16],
     index: &[u16],
 ) -> Turn
-    requires { ⌜ SomeNegating (now deck) (now store) (now cells) held s e ⌝ }
-    requires { ⌜ Rows (now bind) (now trail) (now marks) (now names) (now order) (now child) ⌝ }
-    requires { ⌜ (8192 ≤ length (now cells)) × (steps < budget) × Indexed (now deck) (now index) ⌝ }
-    ensures { λ r. ⌜ ((d : Deck) (g : Goal) (gs : List Goal) (before : List Literal) (p : ℕ) (ts : Terms) (after : List Literal) → Negating (now (deck .entry)) (now (store .entry)) (now (cells .entry)) held s e d g gs before p ts after → Turned d below (now (store .entry)) held budget steps g gs (now (store .exit)) r) ⌝ }
-    ensures { λ _. ⌜ Rows (now (bind .exit)) (now (trail .exit)) (now (marks .exit)) (now (names .exit)) (now (order .exit)) (now (child .exit)) ⌝ }
+    requires { ⌜ SomeNegating (now deck) (now store) (now cells) held (call .s) (call .e) ⌝ }
+    requires { ⌜ Rows (now table) (now draft) ⌝ }
+    requires { ⌜ (8192 ≤ length (now cells)) × (steps .used < steps .budget) × Indexed (now deck) (now index) ⌝ }
+    ensures { λ r. ⌜ ((d : Deck) (g : Goal) (gs : List Goal) (before : List Literal) (p : ℕ) (ts : Terms) (after : List Literal) → Negating (now (deck .entry)) (now (store .entry)) (now (cells .entry)) held (call .s) (call .e) d g gs before p ts after → Turned d below (now (store .entry)) held (steps .budget) (steps .used) g gs (now (store .exit)) r) ⌝ }
+    ensures { λ _. ⌜ Rows (now (table .exit)) (now (draft .exit)) ⌝ }
 {
+    let s = call.s;
+    let e = call.e;
+    let used = steps.used;
     if below == 0 {
-        return Turn::Park(Mark::Deep, steps + 1);
+        return Turn::Park(Mark::Deep, used + 1);
     }
     if store.len() - held < e - s + 2 {
-        return Turn::Stopped(Stop::Store, steps);
+        return Turn::Stopped(Stop::Store, used);
     }
+    let paid = Steps {
+        budget: steps.budget,
+        used: used + 1,
+    };
     let inner = decide(
         deck,
         below,
         store,
         held,
-        s,
-        e,
-        budget,
-        steps + 1,
+        call,
+        paid,
         cells,
-        bind,
-        trail,
-        marks,
-        names,
-        order,
-        child,
+        table,
+        draft,
         index,
     );
     settle(store, held, s, e, inner)
@@ -188,7 +168,7 @@ fn settle(store: &mut [u16], held: usize, s: usize, e: usize, inner: Reply) -> T
     ensures { λ r. ⌜ ((d : Deck) (g : Goal) (gs : List Goal) (before : List Literal) (p : ℕ) (ts : Terms) (after : List Literal) (below budget steps : ℕ) → Negates (d .symbols) (now (store .entry)) held s e g gs before p ts after → Asked d below (now (store .entry)) held budget steps p ts inner → Turned d (suc below) (now (store .entry)) held budget steps g gs (now (store .exit)) r) ⌝ }
 {
     let length = wide(store[held - 1]);
-    let steps = inner.steps;
+    let steps = inner.used;
     let verdict = inner.verdict;
     match verdict {
         Verdict::Succeeds => Turn::More(held - length, steps),
@@ -201,47 +181,36 @@ fn settle(store: &mut [u16], held: usize, s: usize, e: usize, inner: Reply) -> T
     }
 }
 
-// Decides the atom of the negative literal at the cells from s up to e by a level of its own, in the part of the store past the words held.
+// Decides the atom of the selected negative literal by a level of its own, in the part of the store past the words held.
 pub fn decide(
     deck: &[u16],
     below: usize,
     store: &mut [u16],
     held: usize,
-    s: usize,
-    e: usize,
-    budget: u32,
-    steps: u32,
+    call: Call,
+    steps: Steps,
     cells: &mut [u16],
-    bind: &mut [u16],
-    trail: &mut [u16],
-    marks: &mut [u16],
-    names: &mut [u16],
-    order: &mut [u16],
-    child: &mut [u16],
+    table: &mut [u16],
+    draft: &mut [u16],
     index: &[u16],
 ) -> Reply
-    requires { ⌜ SomeDecision (now deck) (now cells) s e ⌝ }
-    requires { ⌜ Rows (now bind) (now trail) (now marks) (now names) (now order) (now child) ⌝ }
-    requires { ⌜ (8192 ≤ length (now cells)) × (steps ≤ budget) × (0 < below) × (held + (e - s) + 2 ≤ length (now store)) × Indexed (now deck) (now index) ⌝ }
-    ensures { λ r. ⌜ ((d : Deck) (p : ℕ) (ts : Terms) → openDeck (now (deck .entry)) ≡ accepted d → Asking (now (cells .entry)) s e (d .symbols) p ts → Replied d (below - 1) (length (now (store .entry)) - held) (atomGoal p ts ∷ []) budget steps r) ⌝ }
-    ensures { λ _. ⌜ Rows (now (bind .exit)) (now (trail .exit)) (now (marks .exit)) (now (names .exit)) (now (order .exit)) (now (child .exit)) ⌝ }
+    requires { ⌜ SomeDecision (now deck) (now cells) (call .s) (call .e) ⌝ }
+    requires { ⌜ Rows (now table) (now draft) ⌝ }
+    requires { ⌜ (8192 ≤ length (now cells)) × (steps .used ≤ steps .budget) × (0 < below) × (held + (call .e - call .s) + 2 ≤ length (now store)) × Indexed (now deck) (now index) ⌝ }
+    ensures { λ r. ⌜ ((d : Deck) (p : ℕ) (ts : Terms) → openDeck (now (deck .entry)) ≡ accepted d → Asking (now (cells .entry)) (call .s) (call .e) (d .symbols) p ts → Replied d (below - 1) (length (now (store .entry)) - held) (atomGoal p ts ∷ []) (steps .budget) (steps .used) r) ⌝ }
+    ensures { λ _. ⌜ Rows (now (table .exit)) (now (draft .exit)) ⌝ }
     ensures { λ _. ⌜ take held (now (store .exit)) ≡ take held (now (store .entry)) ⌝ }
 {
-    let n = ask(store, held, cells, s, e);
+    let n = ask(store, held, cells, call.s, call.e);
     level(
         deck,
         below - 1,
         &mut store[held..],
         n,
-        budget,
         steps,
         cells,
-        bind,
-        trail,
-        marks,
-        names,
-        order,
-        child,
+        table,
+        draft,
         index,
     )
 }
@@ -252,76 +221,53 @@ pub fn level(
     below: usize,
     store: &mut [u16],
     start: usize,
-    budget: u32,
-    used: u32,
+    steps: Steps,
     cells: &mut [u16],
-    bind: &mut [u16],
-    trail: &mut [u16],
-    marks: &mut [u16],
-    names: &mut [u16],
-    order: &mut [u16],
-    child: &mut [u16],
+    table: &mut [u16],
+    draft: &mut [u16],
     index: &[u16],
 ) -> Reply
     requires { ⌜ SomeHolding (now deck) (now store) start ⌝ }
-    requires { ⌜ Rows (now bind) (now trail) (now marks) (now names) (now order) (now child) ⌝ }
-    requires { ⌜ (8192 ≤ length (now cells)) × (used ≤ budget) × Indexed (now deck) (now index) ⌝ }
-    ensures { λ r. ⌜ ((d : Deck) (gs : List Goal) → openDeck (now (deck .entry)) ≡ accepted d → Holding (d .symbols) (now (store .entry)) start gs → Replied d below (length (now (store .entry))) gs budget used r) ⌝ }
-    ensures { λ _. ⌜ Rows (now (bind .exit)) (now (trail .exit)) (now (marks .exit)) (now (names .exit)) (now (order .exit)) (now (child .exit)) ⌝ }
+    requires { ⌜ Rows (now table) (now draft) ⌝ }
+    requires { ⌜ (8192 ≤ length (now cells)) × (steps .used ≤ steps .budget) × Indexed (now deck) (now index) ⌝ }
+    ensures { λ r. ⌜ ((d : Deck) (gs : List Goal) → openDeck (now (deck .entry)) ≡ accepted d → Holding (d .symbols) (now (store .entry)) start gs → Replied d below (length (now (store .entry))) gs (steps .budget) (steps .used) r) ⌝ }
+    ensures { λ _. ⌜ Rows (now (table .exit)) (now (draft .exit)) ⌝ }
 {
     let mut held = start;
-    let mut steps = used;
+    let mut used = steps.used;
     let mut parked = false;
     while 0 < held {
-        if steps == budget {
-            return Reply {
-                verdict: Verdict::Interrupted(Stop::Budget),
-                steps,
-            };
+        if used == steps.budget {
+            let verdict = Verdict::Interrupted(Stop::Budget);
+            return Reply { verdict, used };
         }
-        match take_step(
-            deck,
-            below,
-            store,
-            held,
-            budget,
-            steps,
-            cells,
-            bind,
-            trail,
-            marks,
-            names,
-            order,
-            child,
-            index,
-        ) {
+        let count = Steps {
+            budget: steps.budget,
+            used,
+        };
+        match take_step(deck, below, store, held, count, cells, table, draft, index) {
             Turn::Empty => {
-                return Reply {
-                    verdict: Verdict::Succeeds,
-                    steps: steps + 1,
-                };
+                let verdict = Verdict::Succeeds;
+                used += 1;
+                return Reply { verdict, used };
             }
             Turn::Park(_, k) => {
                 held -= wide(store[held - 1]);
-                steps = k;
+                used = k;
                 parked = true;
             }
             Turn::More(h, k) => {
                 held = h;
-                steps = k;
+                used = k;
             }
-            Turn::Stopped(stop, k) => {
-                return Reply {
-                    verdict: Verdict::Interrupted(stop),
-                    steps: k,
-                };
+            Turn::Stopped(stop, used) => {
+                let verdict = Verdict::Interrupted(stop);
+                return Reply { verdict, used };
             }
         }
     }
-    Reply {
-        verdict: finished(parked),
-        steps,
-    }
+    let verdict = finished(parked);
+    Reply { verdict, used }
 }
 
 // What a finished level says of its atom.

@@ -1,21 +1,21 @@
 -- Terms whose cells stand at a place: their first cell, and their parts.
-use Prim.Native.Nat.{ℕ, zero, suc, _+_, _-_, _≤_, _<_}
-use mathlib.Core.Path.{_≡_, refl, ap, sym, _∙_, subst}
-use mathlib.Core.Option.{Option, none, some, Option·none-ne-some, Option·some-injective}
-use mathlib.Core.Bool.{Bool, true, false, _&&_}
+use Prim.Native.Nat.{ℕ, suc, _+_, _-_, _≤_, _<_}
+use mathlib.Core.Path.{_≡_, refl, ap, sym, _∙_}
+use mathlib.Core.Option.{Option, none, some}
 use mathlib.Core.List.{List, [], _∷_, _++_}
 use native.Mathlib.Omega.{arith}
 use native.Mathlib.Numerals.{add-one}
 use native.Mathlib.Decide.{decLt}
-use lib.Dec.{leb}
 use lib.ListN.{length, getD, getElem?, drop, drop-of-length-le}
 use lib.Seq.{drop-cons, drop-drop}
 use Rattle.rules.specs.Terms.{Term, var, app, Terms, nil, cons, count, size, sizes, varsTerms}
 use Rattle.rules.specs.Syntax.{Symbol, functor, predicate}
 use Rattle.rules.specs.Cells.{writeTerms, function, symbolCell, readCell}
-use Rattle.rules.specs.Decks.{readSymbol, readNext, readAll}
+use Rattle.rules.specs.Decks.{readSymbol, readAll}
 use Rattle.rules.specs.Listing.{decimal, printTerm, printArguments}
 use Rattle.rules.proofs.CellLaws.{Small, after-term, other-terms, cell-symbol, written-as, drop-terms}
+use Rattle.signature.specs.Symbols.{symbolCount, arityAt}
+use Rattle.signature.proofs.SymbolLaws.{Word, symbol-known}
 use Rattle.listing.specs.Standing.{TermsAt, TermAt, printAfter, Walked}
 use Rattle.listing.proofs.PutLaws.{put-nothing}
 use Rattle.listing.proofs.DigitLaws.{decimal-append}
@@ -28,52 +28,17 @@ first-word ws i w rest e = go (decLt i (length ws))
     go (yes h) = let f : getD ws i 0 ∷ drop (i + 1) ws ≡ w ∷ rest = rw (add-one i) (sym (drop-cons ws i 0 h) ∙ e) in (h, cc, cc)
     go (no h) = let f : 0 ≡ length (w ∷ rest) = ap length (sym (drop-of-length-le ws {i = i} (omega arith)) ∙ e) in absurd (omega arith)
 
--- The word of a functor is its arity.
-functor-word : (w k : ℕ) → readSymbol w ≡ some (functor k) → w ≡ k
-unfolding readSymbol
-functor-word w k e = go (leb w 15) (leb 256 w && leb w 271) refl refl
-  where
-    go : (a b : Bool) → leb w 15 ≡ a → (leb 256 w && leb w 271) ≡ b → w ≡ k
-    go true b p q = let f : some (functor w) ≡ some (functor k) = sym (rw (p, readSymbol)) ∙ e in cc
-    go false true p q =
-        let f : some (predicate (w - 256)) ≡ some (functor k) = sym (rw (p, q, readSymbol)) ∙ e in absurd (let z : _≡_ {A = ℕ} 0 1 = cc in omega arith)
-    go false false p q = absurd (Option·none-ne-some (functor k) (sym (rw (p, q, readSymbol)) ∙ e))
-
-abbrev ArityAt : List ℕ → ℕ → ℕ → Type 0
-ArityAt ws f k = (f < length ws) × (getD ws f 0 ≡ k)
-
-arity-next :
-    (w : ℕ) (ws : List ℕ) (s : Symbol) (S : List Symbol) (f k : ℕ) → readSymbol w ≡ some s
-    → ((g : ℕ) → getElem? S g ≡ some (functor k) → ArityAt ws g k) → getElem? (s ∷ S) f ≡ some (functor k) → ArityAt (w ∷ ws) f k
-arity-next w ws s S zero k e r h = (omega arith, functor-word w k (e ∙ h))
-arity-next w ws s S (suc f) k e r h = let t = r f h in (omega (arith, t .0), t .1)
-
-arity-word : (ws : List ℕ) (S : List Symbol) (f k : ℕ) → readAll readSymbol ws ≡ some S → getElem? S f ≡ some (functor k) → ArityAt ws f k
-unfolding readAll readNext
-arity-word [] S f k e h =
-    let q : [] ≡ S = Option·some-injective [] S e in
-    absurd (Option·none-ne-some (functor k) (subst (λ x. getElem? x f ≡ some (functor k)) (sym q) h))
-arity-word (w ∷ ws) S f k e h = go (readSymbol w) (readAll readSymbol ws) refl refl e (λ T g q. arity-word ws T g k q)
-  where
-    go :
-        (o : Option Symbol) (os : Option (List Symbol)) → readSymbol w ≡ o → readAll readSymbol ws ≡ os → readNext o os ≡ some S
-        → ((T : List Symbol) (g : ℕ) → readAll readSymbol ws ≡ some T → getElem? T g ≡ some (functor k) → ArityAt ws g k) → ArityAt (w ∷ ws) f k
-    go none os p q x r = absurd (Option·none-ne-some S x)
-    go (some s) none p q x r = absurd (Option·none-ne-some S x)
-    go (some s) (some T) p q x r =
-        let y : s ∷ T ≡ S = Option·some-injective (s ∷ T) S x in
-        arity-next w ws s T f k p (λ g. r T g q) (subst (λ z. getElem? z f ≡ some (functor k)) (sym y) h)
-
 functor-cell : (f k : ℕ) (o : Option Symbol) → symbolCell f o ≡ function f k → o ≡ some (functor k)
 unfolding symbolCell
 functor-cell f k none e = absurd (let z : _≡_ {A = ℕ} 0 1 = cc in omega arith)
 functor-cell f k (some (functor m)) e = cc
 functor-cell f k (some (predicate m)) e = absurd (let z : _≡_ {A = ℕ} 0 1 = cc in omega arith)
 
-arity-at : (ws : List ℕ) (S : List Symbol) (f k : ℕ) → readAll readSymbol ws ≡ some S → readCell S f ≡ function f k → ArityAt ws f k
+-- The arity of a functor by its symbol word.
+arity-at : (ws : List ℕ) (S : List Symbol) (f k : ℕ) → readAll readSymbol ws ≡ some S → readCell S f ≡ function f k → Word ws f k
 arity-at ws S f k e h =
     let l : f < 16384 = written-as S f (function f k) h .1 in
-    arity-word ws S f k e (functor-cell f k (getElem? S f) (sym (cell-symbol S f l) ∙ h))
+    symbol-known ws S e f (functor k) (functor-cell f k (getElem? S f) (sym (cell-symbol S f l) ∙ h))
 
 -- The first of several terms, and the others after it.
 module _ (words cells : List ℕ) (from : ℕ) where
@@ -103,8 +68,8 @@ module _ (words cells : List ℕ) (from : ℕ) where
 pub record Functor (words cells : List ℕ) (from cell : ℕ) (t : Term) : Type 0 where
   pub arguments : Terms
   pub standing : TermsAt words cells (from + 1) arguments
-  pub known : cell < length words
-  pub arity : getD words cell 0 ≡ count arguments
+  pub known : cell < symbolCount words
+  pub arity : arityAt words cell ≡ count arguments
   pub text : printTerm t [] ≡ (115 ∷ decimal cell []) ++ printArguments arguments []
   pub whole : size t ≡ suc (sizes arguments)
 

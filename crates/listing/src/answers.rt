@@ -4,7 +4,7 @@ ghost use Rattle.rules.specs.Listing.{printSpaced, printAnswer};
 ghost use Rattle.listing.specs.Shown.{RowFits, RowPrinted, AnswersFit, AnswersPrinted};
 use crate::terms::put_term;
 use crate::text::put;
-use crate::words::word;
+use words::word;
 
 // Prints `number` answers from the start of the answer list.
 pub fn put_answers(

@@ -15,7 +15,6 @@ mod lines;
 pub mod numbers;
 mod terms;
 mod text;
-mod words;
 
 pub use crate::lines::put_refusal;
 

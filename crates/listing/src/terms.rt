@@ -1,7 +1,7 @@
 // Terms, printed from the cells that they stand in.
 ghost use Rattle.listing.specs.Standing.{TermFits, TermPrinted, TermsFit, TermsPrinted};
 use crate::numbers::put_prefixed;
-use crate::words::word;
+use words::word;
 
 // The places after what was printed and after the cells that were passed.
 pub struct Places {
@@ -24,7 +24,7 @@ pub fn put_term(out: &mut [u8], at: usize, cells: &[u16], from: usize, symbols: 
         };
     }
     let named = put_prefixed(out, at, b's', cell as u32);
-    let arity = word(symbols, cell);
+    let arity = signature::arity(symbols, cell);
     if arity == 0 {
         return Places {
             at: named,

@@ -71,7 +71,7 @@ module _ {ar cells bs trail : List ℕ} {n : ℕ} (g : Good ar cells bs trail n)
   others : (w : ℕ) → w ≢ v → getD (set bs v p) w 0 ≡ getD bs w 0
   others w h = getD-set-other bs v w p 0 h
 
-  pub bind-elims : elims ar cells (set bs v p) (set trail n v) (n + 1) ≡ join (elims ar cells bs trail n) (bind v (value ar cells bs trail n p) done)
+  bind-elims : elims ar cells (set bs v p) (set trail n v) (n + 1) ≡ join (elims ar cells bs trail n) (bind v (value ar cells bs trail n p) done)
   bind-elims =
       ap (elimsAfter ar cells (set bs v p) done) tr
       ∙ elims-snoc ar cells (set bs v p) done (take n trail) v
@@ -164,7 +164,7 @@ module _ {ar cells bs trail : List ℕ} {n : ℕ} (g : Good ar cells bs trail n)
           let x = getD cells (getD bs w 0) 0 - 32768 in
           rw (others w h) (omega (arith, moved w h l q, g .forward w (old l) (λ z. q (others w h ∙ z)) k′, later-le x v (take n trail), ap (later x) tr))
 
-  pub bind-good : Good ar cells (set bs v p) (set trail n v) (n + 1)
+  bind-good : Good ar cells (set bs v p) (set trail n v) (n + 1)
   bind-good = record {
     formed = g .formed;
     named = λ q l h. rw length-set (g .named q l h);
@@ -211,7 +211,7 @@ unfolding unbound
 all-free [] h = refl
 all-free (b ∷ bs) h = omega (arith, ite-yes {X = ℕ} (ℕ-discrete b 65535) 1 0 (h 0 (omega arith)), all-free bs (λ v l. h (suc v) (omega arith)))
 
-pub no-elims : (ar cells bs trail : List ℕ) → elims ar cells bs trail 0 ≡ done
+no-elims : (ar cells bs trail : List ℕ) → elims ar cells bs trail 0 ≡ done
 unfolding elimsAfter
 no-elims ar cells bs trail = refl
 

@@ -9,11 +9,12 @@ use lib.ListN.{length, getD, drop, length-drop}
 use lib.Seq.{drop-cons}
 use Rattle.rules.specs.Terms.{Terms, var, app, nil, cons, count}
 use Rattle.rules.proofs.TermLaws.{ite-yes, ite-no}
+use Rattle.signature.specs.Symbols.{arityAt}
 use Rattle.matching.specs.Taking.{takeT, dropT}
 use Rattle.matching.specs.Cells.{argsOf, made, reads, from, termAt, Formed, Skipped, Next}
-use Rattle.matching.proofs.TakeLaws.{count-drop, drop-more}
+use Rattle.matching.proofs.TakeLaws.{count-drop}
 
-pub args-functor : (ar : List ℕ) (c : ℕ) → c < 32768 → argsOf ar c ≡ getD ar (c % 16384) 0 % 256
+pub args-functor : (ar : List ℕ) (c : ℕ) → c < 32768 → argsOf ar c ≡ arityAt ar (c % 16384)
 unfolding argsOf
 args-functor ar c h = ite-yes (decLt c 32768) _ _ h
 

@@ -1,3 +1,4 @@
+pub mod TableLaws
 pub mod TakeLaws
 pub mod CellLaws
 pub mod SeenLaws

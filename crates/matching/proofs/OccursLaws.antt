@@ -8,6 +8,8 @@ use native.Mathlib.Decide.{ℕ-discrete, decLt}
 use native.Mathlib.Omega.{arith}
 use lib.ListN.{length, getD, set, length-set}
 use lib.Seq.{getD-set-same, getD-set-other}
+use lib.Dec.{eqb}
+use borrow.Author.Tests.{eqb-true, eqb-false}
 use Rattle.rules.specs.Terms.{Terms, var, app, cons, occ, occs, size, sizes, count}
 use Rattle.rules.specs.Unification.{Substitution, apply, applys}
 use Rattle.rules.proofs.TermLaws.{applys-nil, size-pos, occ-same, occ-other}
@@ -19,10 +21,10 @@ use Rattle.matching.proofs.SeenLaws.{first-of, open-var, open-functor, 
 
 -- 1. Answers.
 
-pub occurs-yes : {k : ℕ} → 0 < k → Occurs k true
+occurs-yes : {k : ℕ} → 0 < k → Occurs k true
 occurs-yes h = record { if-so = λ _. h; if-not = λ z. absurd (let y : _≡_ {A = ℕ} 0 1 = cc in omega arith) }
 
-pub occurs-not : {k : ℕ} → k ≡ 0 → Occurs k false
+occurs-not : {k : ℕ} → k ≡ 0 → Occurs k false
 occurs-not h = record { if-so = λ z. absurd (let y : _≡_ {A = ℕ} 0 1 = cc in omega arith); if-not = λ _. h }
 
 pub occurs-none : (v : ℕ) (es : Substitution) (k : ℕ) (ts : Terms) → k ≡ 0 → Occurs (occs v (applys es (takeT k ts))) false
@@ -31,11 +33,18 @@ occurs-none v es (suc k) ts e = absurd (omega arith)
 
 -- 2. One term, by what stands at the place that it resolves to.
 module _ {ar cells bs trail marks : List ℕ} {n v : ℕ} (c : Checking ar cells bs trail n v marks) {p at : ℕ} (r : Resolved ar cells bs trail n p at) where
-  pub occurs-variable : 32768 ≤ getD cells at 0 → getD cells at 0 - 32768 ≡ v → Occurs (occ v (value ar cells bs trail n p)) true
+  occurs-variable : 32768 ≤ getD cells at 0 → getD cells at 0 - 32768 ≡ v → Occurs (occ v (value ar cells bs trail n p)) true
   occurs-variable l e = occurs-yes (omega (arith, ap (occ v) (sym (r .same) ∙ open-var (c .state .good) (r .final) l), ap (λ w. occ v (var w)) e, occ-same v))
 
-  pub occurs-other : 32768 ≤ getD cells at 0 → (getD cells at 0 - 32768 ≡ v → ⊥) → Occurs (occ v (value ar cells bs trail n p)) false
+  occurs-other : 32768 ≤ getD cells at 0 → (getD cells at 0 - 32768 ≡ v → ⊥) → Occurs (occ v (value ar cells bs trail n p)) false
   occurs-other l q = occurs-not (ap (occ v) (sym (r .same) ∙ open-var (c .state .good) (r .final) l) ∙ occ-other v _ (λ h. q (sym h)))
+
+  pub occurs-cell : 32768 ≤ getD cells at 0 → Occurs (occ v (value ar cells bs trail n p)) (eqb (getD cells at 0 - 32768) v)
+  occurs-cell l = go (eqb (getD cells at 0 - 32768) v) refl
+    where
+      go : (b : Bool) → eqb (getD cells at 0 - 32768) v ≡ b → Occurs (occ v (value ar cells bs trail n p)) b
+      go true e = occurs-variable l (eqb-true (getD cells at 0 - 32768) v e)
+      go false e = occurs-other l (eqb-false (getD cells at 0 - 32768) v e)
 
   module _ {a : ℕ} (e : a ≡ argsOf ar (getD cells at 0)) (l : getD cells at 0 < 32768) where
     by-args : value ar cells bs trail n p ≡ app (getD cells at 0) (seen ar cells bs trail n (at + 1) a)

@@ -11,7 +11,7 @@ use Rattle.rules.specs.Terms.{var, app, cons, count}
 use Rattle.rules.specs.Unification.{Substitution, apply, applys}
 use Rattle.rules.proofs.TermLaws.{ite-yes, ite-no, applys-cons, apply-app}
 use Rattle.matching.specs.Taking.{takeT}
-use Rattle.matching.specs.Cells.{argsOf, from, termAt, others, Next}
+use Rattle.matching.specs.Cells.{argsOf, from, termAt, others}
 use Rattle.matching.specs.Bindings.{elims, value, seen, later, Good, Free, Final, Resolved}
 use Rattle.matching.proofs.CellLaws.{from-inside, from-cons, termAt-functor, termAt-var}
 
@@ -19,11 +19,11 @@ use Rattle.matching.proofs.CellLaws.{from-inside, from-cons, termAt-fun
 pub rank : List ℕ → ℕ → ℕ
 rank xs c = ite (decLt c 32768) 0 (later (c - 32768) xs)
 
-pub rank-functor : (xs : List ℕ) (c : ℕ) → c < 32768 → rank xs c ≡ 0
+rank-functor : (xs : List ℕ) (c : ℕ) → c < 32768 → rank xs c ≡ 0
 unfolding rank
 rank-functor xs c h = ite-yes (decLt c 32768) _ _ h
 
-pub rank-var : (xs : List ℕ) (c : ℕ) → 32768 ≤ c → rank xs c ≡ later (c - 32768) xs
+rank-var : (xs : List ℕ) (c : ℕ) → 32768 ≤ c → rank xs c ≡ later (c - 32768) xs
 unfolding rank
 rank-var xs c h = ite-no (decLt c 32768) _ _ (λ l. omega arith)
 
@@ -77,10 +77,6 @@ pub record Opened (ar cells bs trail : List ℕ) (n p k at : ℕ) : Type 0 where
 module _ {ar cells bs trail : List ℕ} {n p k at : ℕ} where
   pub opened : (k ≡ 0 → ⊥) → k ≤ count (from ar cells p) → Resolved ar cells bs trail n p at → Opened ar cells bs trail n p k at
   opened pos le r = record { final = r .final; same = r .same; split = rw (r .same) (first-of ar cells p k pos le (elims ar cells bs trail n)) }
-
-  -- by the place of the others
-  pub opened-next : {r : ℕ} → Opened ar cells bs trail n p k at → Next ar cells p k r → seen ar cells bs trail n p k ≡ cons (value ar cells bs trail n at) (seen ar cells bs trail n r (k - 1))
-  opened-next o s = rw (s .same) (o .split)
 
 module _ {ar cells bs trail : List ℕ} {n : ℕ} (g : Good ar cells bs trail n) where
   -- a free variable, and a functor with its arguments

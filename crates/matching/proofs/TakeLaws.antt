@@ -16,7 +16,7 @@ count-drop zero ts h = omega arith
 count-drop (suc n) nil h = omega arith
 count-drop (suc n) (cons t ts) h = omega (arith, count-drop n ts (omega arith))
 
-pub drop-none : (n : ℕ) → dropT n nil ≡ nil
+drop-none : (n : ℕ) → dropT n nil ≡ nil
 drop-none zero = refl
 drop-none (suc n) = refl
 

@@ -5,7 +5,7 @@ use mathlib.Core.List.{List, [], _∷_, _++_}
 use Prim.Native.Nat.{ℕ, zero, suc, _+_, _-_, _≤_, _<_}
 use native.Mathlib.Decide.{ℕ-discrete}
 use native.Mathlib.Omega.{arith}
-use lib.ListN.{length, getD, take, set, replicate, length-set, length-append, length-replicate, getD-replicate}
+use lib.ListN.{length, getD, take, set, length-set, length-append}
 use lib.Seq.{take-suc, getD-set-same, getD-set-other}
 use Rattle.rules.proofs.TermLaws.{ite-yes, ite-no}
 use Rattle.matching.specs.Bindings.{later, Blank, Trailed}
@@ -110,12 +110,3 @@ module _ {bs trail marks : List ℕ} where
 
       unmarked′ : (w : ℕ) → getD marks w 0 ≡ 0
       unmarked′ w = elim (ℕ-discrete (getD marks w 0) 0) [ yes e ↦ e | no q ↦ absurd (t .bound w q .1 (free′ w (t .bound w q .0))) ]
-
--- fresh rows
-zero-at : (n w : ℕ) → getD {A = ℕ} (replicate n 0) w 0 ≡ 0
-zero-at zero w = refl
-zero-at (suc n) zero = refl
-zero-at (suc n) (suc w) = zero-at n w
-
-pub blank-start : (n m : ℕ) → Blank (replicate n 65535) (replicate m 0)
-blank-start n m = record { free = λ v l. getD-replicate n v 65535 0 (omega (arith, length-replicate {A = ℕ} n 65535)); unmarked = zero-at m }

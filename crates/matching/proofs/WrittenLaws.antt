@@ -4,9 +4,9 @@ use mathlib.Core.List.{List, [], _∷_, _++_, append-assoc}
 use Prim.Native.Nat.{ℕ, zero, suc, _+_, _%_, _≤_, _<_}
 use native.Mathlib.Omega.{arith}
 use lib.ListN.{length, getD, length-append}
-use lib.Seq.{drop-append-seam}
 use Rattle.rules.specs.Terms.{Term, Terms, var, app, nil, cons, size, sizes, _+++_, count}
 use Rattle.rules.specs.Cells.{writeTerm, writeTerms}
+use Rattle.signature.specs.Symbols.{symbolCount}
 use Rattle.matching.specs.Taking.{takeT, dropT}
 use Rattle.matching.specs.Cells.{argsOf, made, reads, from, Formed}
 use Rattle.matching.specs.Written.{write, writes, Fit, Fits}
@@ -26,30 +26,23 @@ unfolding reads
 reads-cell ar c cs = refl
 
 mutual
-  pub read-write : (ar : List ℕ) (t : Term) → Fit ar t → (rest : List ℕ) → reads ar (write t ++ rest) ≡ cons t (reads ar rest)
+  read-write : (ar : List ℕ) (t : Term) → Fit ar t → (rest : List ℕ) → reads ar (write t ++ rest) ≡ cons t (reads ar rest)
   read-write ar (var v) f rest = reads-cell ar (32768 + v) rest ∙ rw (args-var ar (32768 + v) (omega arith), made-var (32768 + v) nil (omega arith)) (ap (λ i. cons (var i) (reads ar rest)) (omega arith))
   read-write ar (app g ts) f rest =
       reads-cell ar g (writes ts ++ rest)
       ∙ rw (args-functor ar g (f .0), f .2, reads-writes ar ts (f .3) rest, take-join ts (reads ar rest), drop-join ts (reads ar rest), made-functor g ts (f .0))
 
-  pub reads-writes : (ar : List ℕ) (ts : Terms) → Fits ar ts → (rest : List ℕ) → reads ar (writes ts ++ rest) ≡ ts +++ reads ar rest
+  reads-writes : (ar : List ℕ) (ts : Terms) → Fits ar ts → (rest : List ℕ) → reads ar (writes ts ++ rest) ≡ ts +++ reads ar rest
   reads-writes ar nil f rest = refl
   reads-writes ar (cons t ts) f rest = ap (reads ar) (append-assoc (write t) (writes ts) rest) ∙ read-write ar t (f .0) (writes ts ++ rest) ∙ ap (cons t) (reads-writes ar ts (f .1) rest)
-
--- terms that stand among other cells
-pub from-written : (ar front : List ℕ) (ts : Terms) → Fits ar ts → (rest : List ℕ) → from ar (front ++ (writes ts ++ rest)) (length front) ≡ ts +++ reads ar rest
-from-written ar front ts f rest = ap (reads ar) (drop-append-seam front (writes ts ++ rest)) ∙ reads-writes ar ts f rest
-
-pub taken-written : (ar front : List ℕ) (ts : Terms) → Fits ar ts → (rest : List ℕ) → takeT (count ts) (from ar (front ++ (writes ts ++ rest)) (length front)) ≡ ts
-taken-written ar front ts f rest = ap (takeT (count ts)) (from-written ar front ts f rest) ∙ take-join ts (reads ar rest)
 
 -- every cell of a list is in order
 abbrev pub Whole : List ℕ → List ℕ → Type 0
 Whole ar [] = Unit {0}
-Whole ar (c ∷ cs) = (c < 32768 → c % 16384 < length ar) × (argsOf ar c ≤ count (reads ar cs)) × Whole ar cs
+Whole ar (c ∷ cs) = (c < 32768 → c % 16384 < symbolCount ar) × (argsOf ar c ≤ count (reads ar cs)) × Whole ar cs
 
 mutual
-  pub whole-write : (ar : List ℕ) (t : Term) → Fit ar t → (rest : List ℕ) → Whole ar rest → Whole ar (write t ++ rest)
+  whole-write : (ar : List ℕ) (t : Term) → Fit ar t → (rest : List ℕ) → Whole ar rest → Whole ar (write t ++ rest)
   whole-write ar (var v) f rest w = (λ h. absurd (omega arith), omega (arith, args-var ar (32768 + v) (omega arith)), w)
   whole-write ar (app g ts) f rest w = (λ _. f .1, omega (arith, args-functor ar g (f .0), f .2, ap count (reads-writes ar ts (f .3) rest), count-join ts (reads ar rest)), whole-writes ar ts (f .3) rest w)
 
@@ -57,7 +50,7 @@ mutual
   whole-writes ar nil f rest w = w
   whole-writes ar (cons t ts) f rest w = rw append-assoc (whole-write ar t (f .0) (writes ts ++ rest) (whole-writes ar ts (f .1) rest w))
 
-whole-known : (ar cells : List ℕ) → Whole ar cells → (p : ℕ) → p < length cells → getD cells p 0 < 32768 → getD cells p 0 % 16384 < length ar
+whole-known : (ar cells : List ℕ) → Whole ar cells → (p : ℕ) → p < length cells → getD cells p 0 < 32768 → getD cells p 0 % 16384 < symbolCount ar
 whole-known ar [] w p l h = absurd (omega arith)
 whole-known ar (c ∷ cs) w zero l h = w .0 h
 whole-known ar (c ∷ cs) w (suc p) l h = whole-known ar cs (w .2) p (omega arith) h
@@ -71,17 +64,17 @@ pub whole-formed : {ar cells : List ℕ} → Whole ar cells → length cells < 6
 whole-formed {ar} {cells} w h = record { known = whole-known ar cells w; whole = whole-args ar cells w; short = h }
 
 mutual
-  pub length-write : (t : Term) → length (write t) ≡ size t
+  length-write : (t : Term) → length (write t) ≡ size t
   length-write (var v) = refl
   length-write (app f ts) = ap suc (length-writes ts)
 
-  pub length-writes : (ts : Terms) → length (writes ts) ≡ sizes ts
+  length-writes : (ts : Terms) → length (writes ts) ≡ sizes ts
   length-writes nil = refl
   length-writes (cons t ts) = length-append (write t) (writes ts) ∙ ap₂ _+_ (length-write t) (length-writes ts)
 
 -- the rules' writing, which takes the cells that follow
 mutual
-  pub write-term : (t : Term) (rest : List ℕ) → write t ++ rest ≡ writeTerm t rest
+  write-term : (t : Term) (rest : List ℕ) → write t ++ rest ≡ writeTerm t rest
   write-term (var v) rest = refl
   write-term (app f ts) rest = ap (λ cs. f ∷ cs) (writes-terms ts rest)
 

@@ -6,12 +6,13 @@ use mathlib.Core.List.{List, [], _∷_}
 use native.Mathlib.Decide.{decLt}
 use lib.ListN.{length, getD, drop}
 use Rattle.rules.specs.Terms.{Term, Terms, var, app, nil, cons, count}
+use Rattle.signature.specs.Symbols.{symbolCount, arityAt}
 use Rattle.matching.specs.Taking.{takeT, dropT, headT}
 
--- How many terms follow a cell as its arguments. `ar` are the deck's symbol words: the arity, plus 256 for a predicate.
+-- How many terms follow a cell as its arguments. `ar` are the deck's symbol words.
 -- A cell below 32,768 is a symbol's number, or 16,384 plus a predicate's (that predicate negated); so a literal reads as a term.
 unfoldable pub argsOf : List ℕ → ℕ → ℕ
-argsOf ar c = ite (decLt c 32768) (getD ar (c % 16384) 0 % 256) 0
+argsOf ar c = ite (decLt c 32768) (arityAt ar (c % 16384)) 0
 
 -- the term that a cell makes of those that follow it
 unfoldable pub made : ℕ → Terms → Term
@@ -34,7 +35,7 @@ others ar cells p k = takeT (k - 1) (dropT 1 (from ar cells p))
 
 -- cells that are terms, one after another, over the functors of `ar`
 pub record Formed (ar cells : List ℕ) : Type 0 where
-  pub known : (p : ℕ) → p < length cells → getD cells p 0 < 32768 → getD cells p 0 % 16384 < length ar
+  pub known : (p : ℕ) → p < length cells → getD cells p 0 < 32768 → getD cells p 0 % 16384 < symbolCount ar
   pub whole : (p : ℕ) → p < length cells → argsOf ar (getD cells p 0) ≤ count (from ar cells (suc p))
   pub short : length cells < 65536
 

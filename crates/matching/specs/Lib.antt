@@ -1,3 +1,4 @@
+pub mod Tables
 pub mod Taking
 pub mod Cells
 pub mod Bindings

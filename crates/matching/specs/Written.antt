@@ -2,8 +2,8 @@
 use Prim.Native.Nat.{ℕ, _+_, _%_, _<_}
 use mathlib.Core.Path.{_≡_}
 use mathlib.Core.List.{List, [], _∷_, _++_}
-use lib.ListN.{length, getD}
 use Rattle.rules.specs.Terms.{Term, Terms, var, app, nil, cons, count}
+use Rattle.signature.specs.Symbols.{symbolCount, arityAt}
 
 -- a functor's number and then its arguments; 32,768 plus a variable's number
 abbrev mutual
@@ -19,7 +19,7 @@ abbrev mutual
 abbrev mutual
   pub Fit : List ℕ → Term → Type 0
   Fit ar (var v) = Unit {0}
-  Fit ar (app f ts) = (f < 32768) × (f % 16384 < length ar) × (getD ar (f % 16384) 0 % 256 ≡ count ts) × Fits ar ts
+  Fit ar (app f ts) = (f < 32768) × (f % 16384 < symbolCount ar) × (arityAt ar (f % 16384) ≡ count ts) × Fits ar ts
 
   pub Fits : List ℕ → Terms → Type 0
   Fits ar nil = Unit {0}

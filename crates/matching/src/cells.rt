@@ -4,16 +4,17 @@ ghost use mathlib.Core.Bool.{true};
 ghost use Prim.Native.Nat.{_%_, _≤_, _<_};
 ghost use lib.ListN.{length};
 ghost use Rattle.rules.specs.Terms.{count};
+ghost use Rattle.signature.specs.Symbols.{symbolCount};
 ghost use Rattle.matching.specs.Taking.{dropT};
 ghost use Rattle.matching.specs.Cells.{argsOf, from, Formed, Skipped, Next};
 
 // The number of arguments that follow a cell, by the deck's symbol words.
 pub fn arity_of(symbols: &[u16], c: usize) -> usize
-    requires { ⌜ (c < 32768 → c % 16384 < length (now symbols)) ⌝ }
+    requires { ⌜ (c < 32768 → c % 16384 < symbolCount (now symbols)) ⌝ }
     ensures { λ r. ⌜ r ≡ argsOf (now (symbols .entry)) c ⌝ }
 {
     if c < 32768 {
-        (symbols[c % 16384] % 256) as usize
+        signature::arity(symbols, c % 16384)
     } else {
         0
     }

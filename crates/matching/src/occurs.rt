@@ -11,31 +11,33 @@ ghost use lib.ListN.{length, getD};
 ghost use Rattle.rules.specs.Terms.{occ, occs, count};
 ghost use Rattle.matching.specs.Cells.{from};
 ghost use Rattle.matching.specs.Bindings.{value, seen, Checking, Occurs, stamped};
+ghost use Rattle.matching.specs.Tables.{bindOf, trailOf, marksOf, Same};
 
 // Whether the cell at p is a variable whose mark is the stamp.
-fn marked(cells: &[u16], marks: &[u16], stamp: usize, p: usize) -> bool
+fn marked(cells: &[u16], table: &[u16], stamp: usize, p: usize) -> bool
     requires { ⌜ p < length (now cells) ⌝ }
-    requires { ⌜ (32768 ≤ getD (now cells) p 0 → getD (now cells) p 0 - 32768 < length (now marks)) ⌝ }
-    ensures { λ r. ⌜ (r ≡ true → (32768 ≤ getD (now (cells .entry)) p 0) × (getD (now (marks .entry)) (getD (now (cells .entry)) p 0 - 32768) 0 ≡ stamp)) ⌝ }
+    requires { ⌜ (32768 ≤ getD (now cells) p 0 → getD (now cells) p 0 - 32768 < length (marksOf (now table))) ⌝ }
+    ensures { λ r. ⌜ (r ≡ true → (32768 ≤ getD (now (cells .entry)) p 0) × (getD (marksOf (now (table .entry))) (getD (now (cells .entry)) p 0 - 32768) 0 ≡ stamp)) ⌝ }
 {
     let c = cells[p] as usize;
     if c < 32768 {
         return false;
     }
-    let m = marks[c - 32768] as usize;
-    if m == stamp { true } else { false }
+    let m = table[2560 + (c - 32768)] as usize;
+    m == stamp
 }
 
 // Marks the variable at p, if a variable stands there.
-fn mark(cells: &[u16], marks: &mut [u16], stamp: usize, p: usize)
+fn mark(cells: &[u16], table: &mut [u16], stamp: usize, p: usize)
     requires { ⌜ p < length (now cells) ⌝ }
-    requires { ⌜ (32768 ≤ getD (now cells) p 0 → getD (now cells) p 0 - 32768 < length (now marks)) ⌝ }
+    requires { ⌜ (32768 ≤ getD (now cells) p 0 → getD (now cells) p 0 - 32768 < length (marksOf (now table))) ⌝ }
     requires { ⌜ stamp < 65536 ⌝ }
-    ensures { λ _. ⌜ now (marks .exit) ≡ stamped (now (marks .entry)) stamp (getD (now (cells .entry)) p 0) ⌝ }
+    ensures { λ _. ⌜ marksOf (now (table .exit)) ≡ stamped (marksOf (now (table .entry))) stamp (getD (now (cells .entry)) p 0) ⌝ }
+    ensures { λ _. ⌜ Same (now (table .entry)) (now (table .exit)) ⌝ }
 {
     let c = cells[p] as usize;
     if 32768 <= c {
-        marks[c - 32768] = stamp as u16;
+        table[2560 + (c - 32768)] = stamp as u16;
     }
 }
 
@@ -43,31 +45,30 @@ fn mark(cells: &[u16], marks: &mut [u16], stamp: usize, p: usize)
 pub fn occurs(
     cells: &[u16],
     symbols: &[u16],
-    bind: &[u16],
-    trail: &[u16],
+    table: &mut [u16],
     n: usize,
-    marks: &mut [u16],
     v: usize,
     p: usize,
 ) -> bool
-    requires { ⌜ Checking (now symbols) (now cells) (now bind) (now trail) n v (now marks) ⌝ }
+    requires { ⌜ Checking (now symbols) (now cells) (bindOf (now table)) (trailOf (now table)) n v (marksOf (now table)) ⌝ }
     requires { ⌜ p < length (now cells) ⌝ }
-    ensures { λ r. ⌜ Occurs (occ v (value (now (symbols .entry)) (now (cells .entry)) (now (bind .entry)) (now (trail .entry)) n p)) r ⌝ }
-    ensures { λ r. ⌜ Checking (now (symbols .entry)) (now (cells .entry)) (now (bind .entry)) (now (trail .entry)) n v (now (marks .exit)) ⌝ }
+    ensures { λ r. ⌜ Occurs (occ v (value (now (symbols .entry)) (now (cells .entry)) (bindOf (now (table .entry))) (trailOf (now (table .entry))) n p)) r ⌝ }
+    ensures { λ r. ⌜ Checking (now (symbols .entry)) (now (cells .entry)) (bindOf (now (table .entry))) (trailOf (now (table .entry))) n v (marksOf (now (table .exit))) ⌝ }
+    ensures { λ _. ⌜ Same (now (table .entry)) (now (table .exit)) ⌝ }
 {
-    let at = resolve(cells, symbols, bind, trail, n, p);
+    let at = resolve(cells, symbols, table, n, p);
     let c = cells[at] as usize;
     if 32768 <= c {
-        return if c - 32768 == v { true } else { false };
+        return c - 32768 == v;
     }
-    if marked(cells, marks, n + 1, p) {
+    if marked(cells, table, n + 1, p) {
         return false;
     }
     let arity = arity_of(symbols, c);
-    if occurs_any(cells, symbols, bind, trail, n, marks, v, at + 1, arity) {
+    if occurs_any(cells, symbols, table, n, v, at + 1, arity) {
         return true;
     }
-    mark(cells, marks, n + 1, p);
+    mark(cells, table, n + 1, p);
     false
 }
 
@@ -75,25 +76,24 @@ pub fn occurs(
 fn occurs_any(
     cells: &[u16],
     symbols: &[u16],
-    bind: &[u16],
-    trail: &[u16],
+    table: &mut [u16],
     n: usize,
-    marks: &mut [u16],
     v: usize,
     p: usize,
     number: usize,
 ) -> bool
-    requires { ⌜ Checking (now symbols) (now cells) (now bind) (now trail) n v (now marks) ⌝ }
+    requires { ⌜ Checking (now symbols) (now cells) (bindOf (now table)) (trailOf (now table)) n v (marksOf (now table)) ⌝ }
     requires { ⌜ number ≤ count (from (now symbols) (now cells) p) ⌝ }
-    ensures { λ r. ⌜ Occurs (occs v (seen (now (symbols .entry)) (now (cells .entry)) (now (bind .entry)) (now (trail .entry)) n p number)) r ⌝ }
-    ensures { λ r. ⌜ Checking (now (symbols .entry)) (now (cells .entry)) (now (bind .entry)) (now (trail .entry)) n v (now (marks .exit)) ⌝ }
+    ensures { λ r. ⌜ Occurs (occs v (seen (now (symbols .entry)) (now (cells .entry)) (bindOf (now (table .entry))) (trailOf (now (table .entry))) n p number)) r ⌝ }
+    ensures { λ r. ⌜ Checking (now (symbols .entry)) (now (cells .entry)) (bindOf (now (table .entry))) (trailOf (now (table .entry))) n v (marksOf (now (table .exit))) ⌝ }
+    ensures { λ _. ⌜ Same (now (table .entry)) (now (table .exit)) ⌝ }
 {
     if number == 0 {
         return false;
     }
-    if occurs(cells, symbols, bind, trail, n, marks, v, p) {
+    if occurs(cells, symbols, table, n, v, p) {
         return true;
     }
     let next = after_first(cells, symbols, p, number);
-    occurs_any(cells, symbols, bind, trail, n, marks, v, next, number - 1)
+    occurs_any(cells, symbols, table, n, v, next, number - 1)
 }

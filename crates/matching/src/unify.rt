@@ -11,6 +11,7 @@ ghost use Rattle.rules.specs.Unification.{unify};
 ghost use Rattle.matching.specs.Taking.{takeT};
 ghost use Rattle.matching.specs.Cells.{from};
 ghost use Rattle.matching.specs.Bindings.{State, Paired, Free, Final, Ready, Blank};
+ghost use Rattle.matching.specs.Tables.{bindOf, trailOf, marksOf};
 ghost use Rattle.matching.specs.Outcomes.{RanVariable, RanPair, RanPairs, Ended};
 
 // How a unification ended, with the number of variables replaced.
@@ -23,40 +24,29 @@ pub enum Outcome {
 fn eliminate(
     cells: &[u16],
     symbols: &[u16],
-    bind: &mut [u16],
-    trail: &mut [u16],
+    table: &mut [u16],
     n: usize,
-    marks: &mut [u16],
     v: usize,
     p: usize,
 ) -> Outcome
-    requires { ⌜ State (now symbols) (now cells) (now bind) (now trail) (now marks) n n ⌝ }
-    requires { ⌜ Free (now bind) v ⌝ }
-    requires { ⌜ Final (now cells) (now bind) p ⌝ }
-    ensures { λ r. ⌜ RanVariable (now (symbols .entry)) (now (cells .entry)) (now (bind .entry)) (now (trail .entry)) n v p (now (bind .exit)) (now (trail .exit)) (now (marks .exit)) r ⌝ }
+    requires { ⌜ State (now symbols) (now cells) (bindOf (now table)) (trailOf (now table)) (marksOf (now table)) n n ⌝ }
+    requires { ⌜ Free (bindOf (now table)) v ⌝ }
+    requires { ⌜ Final (now cells) (bindOf (now table)) p ⌝ }
+    ensures { λ r. ⌜ RanVariable (now (symbols .entry)) (now (cells .entry)) (bindOf (now (table .entry))) (trailOf (now (table .entry))) n v p (bindOf (now (table .exit))) (trailOf (now (table .exit))) (marksOf (now (table .exit))) r ⌝ }
 {
-    let found = occurs(cells, symbols, bind, trail, n, marks, v, p);
+    let found = occurs(cells, symbols, table, n, v, p);
     if found {
         return Outcome::Failed(n);
     }
-    bind[v] = p as u16;
-    trail[n] = v as u16;
+    table[v] = p as u16;
+    table[1280 + n] = v as u16;
     Outcome::Unified(n + 1)
 }
 
 // The equation between the terms at a and b, at neither of which stands a variable that was replaced.
-fn pair(
-    cells: &[u16],
-    symbols: &[u16],
-    bind: &mut [u16],
-    trail: &mut [u16],
-    n: usize,
-    marks: &mut [u16],
-    a: usize,
-    b: usize,
-) -> Outcome
-    requires { ⌜ Paired (now symbols) (now cells) (now bind) (now trail) (now marks) n a b ⌝ }
-    ensures { λ r. ⌜ RanPair (now (symbols .entry)) (now (cells .entry)) (now (bind .entry)) (now (trail .entry)) n a b (now (bind .exit)) (now (trail .exit)) (now (marks .exit)) r ⌝ }
+fn pair(cells: &[u16], symbols: &[u16], table: &mut [u16], n: usize, a: usize, b: usize) -> Outcome
+    requires { ⌜ Paired (now symbols) (now cells) (bindOf (now table)) (trailOf (now table)) (marksOf (now table)) n a b ⌝ }
+    ensures { λ r. ⌜ RanPair (now (symbols .entry)) (now (cells .entry)) (bindOf (now (table .entry))) (trailOf (now (table .entry))) n a b (bindOf (now (table .exit))) (trailOf (now (table .exit))) (marksOf (now (table .exit))) r ⌝ }
 {
     let c = cells[a] as usize;
     let d = cells[b] as usize;
@@ -64,48 +54,46 @@ fn pair(
         if c == d {
             return Outcome::Unified(n);
         }
-        return eliminate(cells, symbols, bind, trail, n, marks, c - 32768, b);
+        return eliminate(cells, symbols, table, n, c - 32768, b);
     }
     if d >= 32768 {
-        return eliminate(cells, symbols, bind, trail, n, marks, d - 32768, a);
+        return eliminate(cells, symbols, table, n, d - 32768, a);
     }
     if c != d {
         return Outcome::Failed(n);
     }
     let arity = arity_of(symbols, c);
-    pairs(cells, symbols, bind, trail, n, marks, a + 1, b + 1, arity)
+    pairs(cells, symbols, table, n, a + 1, b + 1, arity)
 }
 
 // The equations between the `number` terms at p and those at q, in order.
 fn pairs(
     cells: &[u16],
     symbols: &[u16],
-    bind: &mut [u16],
-    trail: &mut [u16],
+    table: &mut [u16],
     n: usize,
-    marks: &mut [u16],
     p: usize,
     q: usize,
     number: usize,
 ) -> Outcome
-    requires { ⌜ State (now symbols) (now cells) (now bind) (now trail) (now marks) n n ⌝ }
+    requires { ⌜ State (now symbols) (now cells) (bindOf (now table)) (trailOf (now table)) (marksOf (now table)) n n ⌝ }
     requires { ⌜ number ≤ count (from (now symbols) (now cells) p) ⌝ }
     requires { ⌜ number ≤ count (from (now symbols) (now cells) q) ⌝ }
-    ensures { λ r. ⌜ RanPairs (now (symbols .entry)) (now (cells .entry)) (now (bind .entry)) (now (trail .entry)) n p q number (now (bind .exit)) (now (trail .exit)) (now (marks .exit)) r ⌝ }
+    ensures { λ r. ⌜ RanPairs (now (symbols .entry)) (now (cells .entry)) (bindOf (now (table .entry))) (trailOf (now (table .entry))) n p q number (bindOf (now (table .exit))) (trailOf (now (table .exit))) (marksOf (now (table .exit))) r ⌝ }
 {
     if number == 0 {
         return Outcome::Unified(n);
     }
-    let a = resolve(cells, symbols, bind, trail, n, p);
-    let b = resolve(cells, symbols, bind, trail, n, q);
-    let first = pair(cells, symbols, bind, trail, n, marks, a, b);
+    let a = resolve(cells, symbols, table, n, p);
+    let b = resolve(cells, symbols, table, n, q);
+    let first = pair(cells, symbols, table, n, a, b);
     let Outcome::Unified(m) = first else {
         return first;
     };
     let p_next = after_first(cells, symbols, p, number);
     let q_next = after_first(cells, symbols, q, number);
     let left = number - 1;
-    pairs(cells, symbols, bind, trail, m, marks, p_next, q_next, left)
+    pairs(cells, symbols, table, m, p_next, q_next, left)
 }
 
 // Unifies the `number` terms at p with those at q. The bindings stand for the substitution after.
@@ -113,18 +101,16 @@ fn pairs(
 pub fn unify_terms(
     cells: &[u16],
     symbols: &[u16],
-    bind: &mut [u16],
-    trail: &mut [u16],
-    marks: &mut [u16],
+    table: &mut [u16],
     p: usize,
     q: usize,
     number: usize,
 ) -> Outcome
-    requires { ⌜ Ready (now symbols) (now cells) (length (now bind)) (length (now trail)) (length (now marks)) ⌝ }
-    requires { ⌜ Blank (now bind) (now marks) ⌝ }
+    requires { ⌜ Ready (now symbols) (now cells) (length (bindOf (now table))) (length (trailOf (now table))) (length (marksOf (now table))) ⌝ }
+    requires { ⌜ Blank (bindOf (now table)) (marksOf (now table)) ⌝ }
     requires { ⌜ number ≤ count (from (now symbols) (now cells) p) ⌝ }
     requires { ⌜ number ≤ count (from (now symbols) (now cells) q) ⌝ }
-    ensures { λ r. ⌜ Ended (now (symbols .entry)) (now (cells .entry)) (unify (takeT number (from (now (symbols .entry)) (now (cells .entry)) p)) (takeT number (from (now (symbols .entry)) (now (cells .entry)) q))) (now (bind .exit)) (now (trail .exit)) (now (marks .exit)) r ⌝ }
+    ensures { λ r. ⌜ Ended (now (symbols .entry)) (now (cells .entry)) (unify (takeT number (from (now (symbols .entry)) (now (cells .entry)) p)) (takeT number (from (now (symbols .entry)) (now (cells .entry)) q))) (bindOf (now (table .exit))) (trailOf (now (table .exit))) (marksOf (now (table .exit))) r ⌝ }
 {
-    pairs(cells, symbols, bind, trail, 0, marks, p, q, number)
+    pairs(cells, symbols, table, 0, p, q, number)
 }

@@ -1,10 +1,10 @@
 -- What the program prints, and the parts of its run.
-use Prim.Native.Nat.{ℕ, _≤_}
+use Prim.Native.Nat.{ℕ}
 use mathlib.Core.Path.{_≡_}
 use mathlib.Core.Bool.{Bool, true, false, _&&_}
 use mathlib.Core.Option.{Option, none, some}
-use mathlib.Core.List.{List}
-use lib.ListN.{length, take}
+use mathlib.Core.List.{List, _++_}
+use lib.ListN.{length, drop}
 use lib.Dec.{leb}
 use Rattle.rules.specs.Refusals.{Checked, andThen as _>>=_}
 use Rattle.rules.specs.Decks.{openDeck}
@@ -21,11 +21,10 @@ fileOf false bytes = none
 abbrev pub deckFits : Bool → List ℕ → Bool
 deckFits present bytes = present && (even bytes && leb (length bytes) 32768)
 
--- The first n bytes of the output are the text, and there are n of them. The last two are stated so that a caller can lend these bytes.
-pub record Printed (text out : List ℕ) (n : ℕ) : Type 0 where
-  pub bytes : take n out ≡ text
-  pub inside : n ≤ length out
-  pub many : n ≡ length (take n out)
+-- The n bytes of the text stand at the start of the output, and after them what stood there before.
+pub record Printed (text before : List ℕ) (n : ℕ) (after : List ℕ) : Type 0 where
+  pub number : n ≡ length text
+  pub bytes : after ≡ text ++ drop n before
 
 -- The program's run from both inputs' words on, from the query's bytes on, and from the opening of the deck on.
 abbrev pub wordsRun : List ℕ → List ℕ → Checked Outcome

@@ -9,10 +9,10 @@ use listing::input::read_words;
 use listing::put_listing;
 use listing::put_refusal;
 
-// What the program prints, at the start of `out`; the result is how many bytes. `present` says that the deck file is there.
+// What the program prints, at the start of `out`, whose other bytes stay; the result is how many bytes. `present` says that the deck file is there.
 // A listing has at most 58 bytes in its first two lines, and 8 for each word of the answer list.
 pub fn printed(present: bool, deck: &[u8], query: &[u8], out: &mut [u8; 65594]) -> usize
-    ensures { λ r. ⌜ Printed (program (fileOf present (now (deck .entry))) (now (query .entry))) (now (out .exit)) r ⌝ }
+    ensures { λ r. ⌜ Printed (program (fileOf present (now (deck .entry))) (now (query .entry))) (now (out .entry)) r (now (out .exit)) ⌝ }
 {
     if !deck_fits(present, deck) {
         return put_refusal(out, 1);
@@ -37,7 +37,7 @@ fn deck_fits(present: bool, deck: &[u8]) -> bool
 
 // The deck's words are there. The deck is refused before anything is said of the query.
 fn opened(deck: &[u16], query: &[u8], out: &mut [u8; 65594]) -> usize
-    ensures { λ r. ⌜ Printed (listing (openedRun (now (deck .entry)) (now (query .entry)))) (now (out .exit)) r ⌝ }
+    ensures { λ r. ⌜ Printed (listing (openedRun (now (deck .entry)) (now (query .entry)))) (now (out .entry)) r (now (out .exit)) ⌝ }
 {
     let number = deck::number(deck::open(deck));
     if number != 0 {
@@ -48,7 +48,7 @@ fn opened(deck: &[u16], query: &[u8], out: &mut [u8; 65594]) -> usize
 
 // The deck is accepted.
 fn asked(deck: &[u16], query: &[u8], out: &mut [u8; 65594]) -> usize
-    ensures { λ r. ⌜ Printed (listing (askedRun (now (deck .entry)) (now (query .entry)))) (now (out .exit)) r ⌝ }
+    ensures { λ r. ⌜ Printed (listing (askedRun (now (deck .entry)) (now (query .entry)))) (now (out .entry)) r (now (out .exit)) ⌝ }
 {
     if 1000 < query.len() {
         return put_refusal(out, 6);
@@ -64,7 +64,7 @@ fn asked(deck: &[u16], query: &[u8], out: &mut [u8; 65594]) -> usize
 
 // The query's words are there too.
 fn listed(deck: &[u16], query: &[u16], out: &mut [u8; 65594]) -> usize
-    ensures { λ r. ⌜ Printed (listing (wordsRun (now (deck .entry)) (now (query .entry)))) (now (out .exit)) r ⌝ }
+    ensures { λ r. ⌜ Printed (listing (wordsRun (now (deck .entry)) (now (query .entry)))) (now (out .entry)) r (now (out .exit)) ⌝ }
 {
     let mut answers = [0u16; 8192];
     let mut store = [0u16; 16384];

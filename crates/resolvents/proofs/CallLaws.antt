@@ -117,7 +117,7 @@ module _ {ar cells clause : List ℕ} {size answers s e n : ℕ} {S : List Symbo
   pub arity-known : getD cells s 0 < 32768 → getD cells s 0 % 16384 < length ar
   arity-known _ = rw selected-cell (predicate-known .1)
 
-  pub arity-is : argsOf ar (getD cells s 0) ≡ count ts
+  arity-is : argsOf ar (getD cells s 0) ≡ count ts
   arity-is = ap (argsOf ar) selected-cell ∙ args-functor ar p (predicate-known .0) ∙ predicate-known .2
 
   -- THE CLAUSE

@@ -83,7 +83,7 @@ pub lits-append : (ls ms : List Literal) → litTerms (ls ++ ms) ≡ litTerms ls
 lits-append [] ms = refl
 lits-append (l ∷ ls) ms = ap (cons (litTerm l)) (lits-append ls ms)
 
-pub lits-cells : (ls : List Literal) → writeTerms (litTerms ls) [] ≡ writeLiterals ls
+lits-cells : (ls : List Literal) → writeTerms (litTerms ls) [] ≡ writeLiterals ls
 lits-cells [] = refl
 lits-cells (pos p ts ∷ ls) = ap (λ cs. p ∷ writeTerms ts cs) (lits-cells ls)
 lits-cells (neg p ts ∷ ls) = ap (λ cs. (16384 + p) ∷ writeTerms ts cs) (lits-cells ls)
@@ -98,7 +98,7 @@ lits-vars [] = refl
 lits-vars (pos p ts ∷ ls) = ap (varsTerms ts) (lits-vars ls)
 lits-vars (neg p ts ∷ ls) = ap (varsTerms ts) (lits-vars ls)
 
-pub lits-applys : (es : Substitution) (ls : List Literal) → litTerms (mapLiterals (applys es) ls) ≡ applys es (litTerms ls)
+lits-applys : (es : Substitution) (ls : List Literal) → litTerms (mapLiterals (applys es) ls) ≡ applys es (litTerms ls)
 lits-applys es [] = sym (applys-nil es)
 lits-applys es (pos p ts ∷ ls) = rw (applys-cons, apply-app, lits-applys es ls)
 lits-applys es (neg p ts ∷ ls) = rw (applys-cons, apply-app, lits-applys es ls)

@@ -13,6 +13,9 @@ use Rattle.matching.specs.Cells.{from, termAt}
 use Rattle.matching.specs.Bindings.{elims, Ready}
 use Rattle.matching.proofs.CellLaws.{from-cons}
 use Rattle.resolvents.specs.Naming.{within, Named, orderAfter, cellsUnder, Wrote}
+use Rattle.matching.specs.Tables.{bindOf, trailOf, marksOf}
+use Rattle.matching.proofs.TableLaws.{part-length}
+use Rattle.resolvents.specs.Drafts.{namesOf, orderOf}
 use Rattle.resolvents.specs.Deriving.{Rows}
 use Rattle.resolvents.specs.Child.{rangeAfter, literalsAfter, Onward, Adds, widthOf, Past, Finished, Unnamed, IsChild, DerivedBy, placeAfter, literalsBefore, Together}
 use Rattle.resolvents.specs.declared.put.Put.{Put}
@@ -119,21 +122,27 @@ module _ (ar cells bs trail : List ℕ) (n size answers s e body : ℕ) (here : 
       subst (λ u. DerivedBy u (within ar cells 0 answers) (literalsBefore ar cells size answers s e) child r) (sym q)
       (subst (λ ts. IsChild (rangeAfter ar cells bs trail n 0 answers) ts child r) (sym literals-after) h)
 
--- The arrays of a run.
+-- The rows of a run.
 pub rows-ready :
-    {ar cells : List ℕ} {size answers s e number : ℕ} {bind trail marks names order child : List ℕ} → Together ar cells size answers s e number
-    → Rows bind trail marks names order child → Ready ar cells (length bind) (length trail) (length marks)
-rows-ready t w = record {
-  formed = t .formed;
-  named = λ p l h. omega (arith, t .few p l h, w .bindLength);
-  narrow = omega (arith, w .bindLength);
-  trailed = omega (arith, w .bindLength, w .trailLength);
-  wide = omega (arith, w .bindLength, w .marksLength);
-}
+    {ar cells : List ℕ} {size answers s e number : ℕ} {table draft : List ℕ} → Together ar cells size answers s e number
+    → Rows table draft → Ready ar cells (length (bindOf table)) (length (trailOf table)) (length (marksOf table))
+rows-ready {table = table} t w =
+    let bind = part-length 0 1280 table (omega (arith, w .tableLength)) in
+    let trail = part-length 1280 1280 table (omega (arith, w .tableLength)) in
+    let marks = part-length 2560 1280 table (omega (arith, w .tableLength)) in
+    record {
+      formed = t .formed;
+      named = λ p l h. omega (arith, t .few p l h, bind);
+      narrow = omega (arith, bind);
+      trailed = omega (arith, bind, trail);
+      wide = omega (arith, bind, marks);
+    }
 
-pub rows-named : {bind trail marks names order child : List ℕ} → Rows bind trail marks names order child → Named names order 0
-rows-named {names = names} {order} w =
-    start-named names order (w .unnamed) (omega (arith, w .namesLength)) (omega (arith, w .namesLength, w .orderLength))
+pub rows-named : {table draft : List ℕ} → Rows table draft → Named (namesOf draft) (orderOf draft) 0
+rows-named {draft = draft} w =
+    let names = part-length 1024 1280 draft (omega (arith, w .draftLength)) in
+    let order = part-length 2304 1280 draft (omega (arith, w .draftLength)) in
+    start-named (namesOf draft) (orderOf draft) (w .unnamed) (omega (arith, names)) (omega (arith, names, order))
 
 -- The place after the clause's head.
 pub head-ends :

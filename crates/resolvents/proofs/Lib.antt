@@ -1,4 +1,5 @@
 pub mod NamingLaws
+pub mod DraftLaws
 pub mod WroteLaws
 pub mod WalkLaws
 pub mod CellTrees

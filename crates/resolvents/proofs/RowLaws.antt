@@ -58,7 +58,7 @@ pub record Stands (cells : List ℕ) (p : ℕ) (us : Terms) (rest : List ℕ) : 
   pub inside : p ≤ length cells
   pub there : drop p cells ≡ writeTerms us rest
 
-pub stands-start : {cells : List ℕ} {ts : Terms} → cells ≡ writeTerms ts [] → Stands cells 0 ts []
+stands-start : {cells : List ℕ} {ts : Terms} → cells ≡ writeTerms ts [] → Stands cells 0 ts []
 stands-start e = record { inside = omega arith; there = e }
 
 module _ {cells : List ℕ} {p : ℕ} {us : Terms} {rest : List ℕ} (s : Stands cells p us rest) where
@@ -100,7 +100,7 @@ module _ {cells : List ℕ} {p : ℕ} (us vs : Terms) {rest : List ℕ} (s : Sta
 
 -- A functor, and then its arguments.
 module _ {cells : List ℕ} {p f : ℕ} {ts us : Terms} {rest : List ℕ} (s : Stands cells p (cons (app f ts) us) rest) where
-  pub stands-inside : p < length cells
+  stands-inside : p < length cells
   stands-inside = omega (arith, stands-room s)
 
   pub stands-cell : getD cells p 0 ≡ f

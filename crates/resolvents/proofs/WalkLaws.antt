@@ -21,7 +21,7 @@ use Rattle.resolvents.specs.declared.put.Put.{Put}
 use Rattle.resolvents.specs.declared.put.Put.the-variants.{To, Full}
 use Rattle.resolvents.proofs.WroteLaws.{wrote-none, wrote-over, wrote-functor, wrote-join, wrote-full, wrote-room}
 
-pub take-none : (k : ℕ) → takeT k nil ≡ nil
+take-none : (k : ℕ) → takeT k nil ≡ nil
 take-none zero = refl
 take-none (suc k) = refl
 
@@ -38,7 +38,7 @@ pub args-small : (ar : List ℕ) (c : ℕ) → argsOf ar c ≤ 255
 args-small ar c = elim (decLt c 32768) [ yes l ↦ omega (arith, args-functor ar c l) | no q ↦ omega (arith, args-var ar c (omega arith)) ]
 
 -- The first cell of a range: a functor, whose arguments and the other terms follow; or a variable. No cell is left.
-pub range-cell : (ar cells : List ℕ) (i end : ℕ) → i < end → end ≤ length cells → within ar cells i end ≡ cons (made (getD cells i 0) (takeT (argsOf ar (getD cells i 0)) (within ar cells (i + 1) end))) (dropT (argsOf ar (getD cells i 0)) (within ar cells (i + 1) end))
+range-cell : (ar cells : List ℕ) (i end : ℕ) → i < end → end ≤ length cells → within ar cells i end ≡ cons (made (getD cells i 0) (takeT (argsOf ar (getD cells i 0)) (within ar cells (i + 1) end))) (dropT (argsOf ar (getD cells i 0)) (within ar cells (i + 1) end))
 unfolding reads
 range-cell ar cells i end l h = rw add-one (ap (reads ar) (slice-cons i end cells 0 l h))
 
@@ -139,7 +139,7 @@ pub range-whole : (ar cells : List ℕ) (p end : ℕ) → end ≤ length cells �
 range-whole ar cells p end h = take-whole (end - p) (within ar cells p end) (omega (arith, count-reads ar (slice p end cells), length-slice p end cells h))
 
 -- A range up to the last cell: so many terms are those at its start.
-pub range-seen : (es : Substitution) (ar cells : List ℕ) (p k : ℕ) → applys es (takeT k (within ar cells p (length cells))) ≡ applys es (takeT k (from ar cells p))
+range-seen : (es : Substitution) (ar cells : List ℕ) (p k : ℕ) → applys es (takeT k (within ar cells p (length cells))) ≡ applys es (takeT k (from ar cells p))
 range-seen es ar cells p k = rw take-length
 
 -- The term t is the one at q: a free variable, or a functor with its arguments.

@@ -10,20 +10,18 @@ use Rattle.rules.specs.Decks.{writeClause}
 use Rattle.rules.specs.Goals.{goalWords, marked, pending, writeGoal}
 use Rattle.rules.specs.WellFormed.{WfClause}
 use Rattle.matching.specs.Bindings.{Blank}
+use Rattle.matching.specs.Tables.{bindOf, marksOf}
+use Rattle.resolvents.specs.Drafts.{namesOf}
 use Rattle.resolvents.specs.Selecting.{GoalCells, Spans}
 use Rattle.resolvents.specs.declared.resolve.Resolved.{Resolved}
 use Rattle.resolvents.specs.declared.resolve.Resolved.the-variants.{Nothing, Child, Oversized}
 
--- The arrays of a run between two clauses: nothing is bound, marked or named, and there is room for every variable.
-pub record Rows (bind trail marks names order child : List ℕ) : Type 0 where
-  pub blank : Blank bind marks
-  pub unnamed : (v : ℕ) → v < length names → getD names v 0 ≡ 65535
-  pub bindLength : length bind ≡ 1280
-  pub trailLength : length trail ≡ 1280
-  pub marksLength : length marks ≡ 1280
-  pub namesLength : length names ≡ 1280
-  pub orderLength : length order ≡ 1280
-  pub childLength : length child ≡ 1024
+-- The table and the draft of a run between two clauses: nothing is bound, marked or named, and there is room for every variable.
+pub record Rows (table draft : List ℕ) : Type 0 where
+  pub blank : Blank (bindOf table) (marksOf table)
+  pub unnamed : (v : ℕ) → v < length (namesOf draft) → getD (namesOf draft) v 0 ≡ 65535
+  pub tableLength : length table ≡ 3840
+  pub draftLength : length draft ≡ 3584
 
 -- The first `size` cells are those of the goal g, in which the positive literal p(ts), with `before` and `after` around it, stands from s
 -- up to e; its variables are below n.

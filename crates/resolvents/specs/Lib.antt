@@ -1,3 +1,4 @@
+pub mod Drafts
 -- What the code's data stand for: variables named in order, the selected literal, the derived goal.
 pub mod Naming
 pub mod Variables

@@ -224,10 +224,6 @@ read-literals S (neg p ts ∷ ls) w s =
     read-literal S (16384 + p) (neg p) (negative p (count ts)) ts ls (λ r. refl) (w .0 .0) (w .0 .1) s
     (read-literals S ls (w .1) (after-terms Small ts (varsLiterals ls) s))
 
-pub only-literals : (S : List Symbol) (ls : List Literal) → WfLiterals S ls → All Small (varsLiterals ls) → onlyLiterals (readRow S (writeLiterals ls)) ≡ some ls
-unfolding onlyLiterals
-only-literals S ls w s = ap onlyLiterals (read-literals S ls w s)
-
 pub read-row :
     (S : List Symbol) (ts : Terms) (ls : List Literal) → WfTerms S ts → WfLiterals S ls → All Small (varsTerms ts (varsLiterals ls))
     → readRow S (writeTerms ts (writeLiterals ls)) ≡ some (row ts ls)

@@ -1,6 +1,6 @@
 -- A reader that goes forward over the cells, as code does, reads what the written rules read.
 use Prim.Native.Nat.{ℕ, zero, suc, _+_, _<_}
-use mathlib.Core.Path.{_≡_, refl, ap, ap₂, sym, _∙_, subst}
+use mathlib.Core.Path.{_≡_, refl, ap, ap₂, sym, _∙_}
 use mathlib.Core.Option.{Option, none, some}
 use mathlib.Core.List.{List, [], _∷_}
 use native.Mathlib.Omega.{arith}
@@ -120,9 +120,6 @@ forward-sound (suc n) S zero cs = record { written = refl; terms = tt; small = t
 forward-sound (suc n) S (suc k) [] = tt
 forward-sound (suc n) S (suc k) (c ∷ cs) =
     onCell-sound S c cs k (λ m. forward n S m cs) (λ rest. forward n S k rest) (readCell S c) refl (λ m. forward-sound n S m cs) (λ rest. forward-sound n S k rest)
-
-pub forward-reads : (n : ℕ) (S : List Symbol) (k : ℕ) (cs : List ℕ) (ts : Terms) (rest : List ℕ) → forward n S k cs ≡ some (got ts rest) → Forward S k cs ts rest
-forward-reads n S k cs ts rest e = subst (ForwardSound S k cs) e (forward-sound n S k cs)
 
 -- Literals.
 unfoldable pub withLiteral : Literal → Option (List Literal) → Option (List Literal)

@@ -39,3 +39,9 @@ pub mod Fitting
 pub mod ThreeCover
 pub mod Contradiction
 pub mod Needed
+-- Runs that pin the rules: the words left, the order of things, the bounds, the checks, the listing and the program.
+pub mod WordRuns
+pub mod SearchRuns
+pub mod StoreRuns
+pub mod RefusalRuns
+pub mod ListingRuns

@@ -261,11 +261,6 @@ numbered-count vs h = ap length (numbered-appearing vs h) ∙ length-upTo (above
 pub numbered-position : (vs : List ℕ) → InOrder vs → (v : ℕ) → In v vs → position (appearing [] vs) v ≡ v
 numbered-position vs h v k = rw (numbered-appearing vs h) (position-upTo v (above vs) (in-above v k))
 
--- There are no gaps.
-pub numbered-all : (vs : List ℕ) → InOrder vs → (v : ℕ) → v < above vs → In v vs
-numbered-all vs h v l =
-    elim (appearing-only v [] vs (rw (numbered-appearing vs h) (in-upTo v (above vs) l))) [ inl k ↦ absurd (List·Memᴰ·not-nil k) | inr k ↦ k ]
-
 -- VARIABLES OF TERMS, LITERALS AND GOALS
 -- What follows is put behind.
 mutual
@@ -341,9 +336,6 @@ topLiterals-above (l ∷ ls) = omega (arith, tops-above (arguments l) (varsLiter
 pub topGoal-above : (g : Goal) → above (varsGoal g) ≡ topGoal g
 topGoal-above g = omega (arith, tops-above (g .answers) (varsLiterals (g .literals)), topLiterals-above (g .literals))
 
-pub below-topGoal : (g : Goal) (v : ℕ) → In v (varsGoal g) → v < topGoal g
-below-topGoal g v h = rw (topGoal-above g) at (in-above v h)
-
 -- RENAMING
 module _ (ρ : ℕ → ℕ) where
   mutual
@@ -402,10 +394,6 @@ renumber-same g h = goal-same (position (appearing [] (varsGoal g))) g (numbered
 
 pub renumber-again : (g : Goal) → renumber (renumber g) ≡ renumber g
 renumber-again g = renumber-same (renumber g) (renumber-inOrder g)
-
--- The variables of a goal in order are as many as have appeared.
-pub topGoal-appearing : (g : Goal) → InOrder (varsGoal g) → length (appearing [] (varsGoal g)) ≡ topGoal g
-topGoal-appearing g h = numbered-count (varsGoal g) h ∙ topGoal-above g
 
 -- Without a literal that has no variables the variables are the same.
 pub vars-without :

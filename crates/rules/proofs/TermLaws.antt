@@ -2,7 +2,7 @@
 use mathlib.Core.Path.{_≡_, refl, _∙_, ap, ap₂}
 use mathlib.Core.Logic.{ite, dite, _≢_}
 use Prim.Native.Nat.{ℕ, suc, _+_, max, _≤_, _<_}
-use native.Mathlib.Decide.{ℕ-discrete, decLt}
+use native.Mathlib.Decide.{ℕ-discrete}
 use native.Mathlib.Omega.{arith}
 use Rattle.rules.specs.Terms.{Term, Terms, var, app, nil, cons, sub, subs, occ, occs, size, sizes, top, tops, _+++_, count}
 use Rattle.rules.specs.Unification.{Substitution, done, bind, apply, applys}
@@ -98,7 +98,7 @@ module _ (v x : ℕ) (s : Term) (free : occ v s ≡ 0) where
     kepts nil h = refl
     kepts (cons t ts) h = ap₂ _+_ (kept t (omega arith)) (kepts ts (omega arith))
 
--- A variable at or above `top` does not occur, and one that occurs is below it.
+-- A variable at or above `top` does not occur.
 mutual
   pub above-top : (t : Term) (v : ℕ) → top t ≤ v → occ v t ≡ 0
   above-top (var x) v h = occ-other v x (λ e. omega arith)
@@ -107,12 +107,6 @@ mutual
   pub above-tops : (ts : Terms) (v : ℕ) → tops ts ≤ v → occs v ts ≡ 0
   above-tops nil v h = refl
   above-tops (cons t ts) v h = ap₂ _+_ (above-top t v (omega arith)) (above-tops ts v (omega arith))
-
-pub below-top : (t : Term) (v : ℕ) → 0 < occ v t → v < top t
-below-top t v h = elim (decLt v (top t)) [ yes l ↦ l | no q ↦ omega (arith, above-top t v (omega arith)) ]
-
-pub below-tops : (ts : Terms) (v : ℕ) → 0 < occs v ts → v < tops ts
-below-tops ts v h = elim (decLt v (tops ts)) [ yes l ↦ l | no q ↦ omega (arith, above-tops ts v (omega arith)) ]
 
 -- One list of terms and then another.
 pub occs-join : (v : ℕ) (us l : Terms) → occs v (us +++ l) ≡ occs v us + occs v l

@@ -266,14 +266,6 @@ pub unify-none : unify nil nil ≡ solved 0 done
 unfolding unifyStep
 unify-none = unify-step nil nil
 
-pub unify-left-none : (b : Term) (r : Terms) → unify nil (cons b r) ≡ fails 0
-unfolding unifyStep
-unify-left-none b r = unify-step nil (cons b r)
-
-pub unify-right-none : (a : Term) (l : Terms) → unify (cons a l) nil ≡ fails 0
-unfolding unifyStep
-unify-right-none a l = unify-step (cons a l) nil
-
 pub unify-cons : (a b : Term) (l r : Terms) → unify (cons a l) (cons b r) ≡ unifyFront unify unify a b l r
 unfolding unifyStep
 unify-cons a b l r = unify-step (cons a l) (cons b r)
@@ -311,11 +303,6 @@ module _ (l r : Terms) where
   unfolding unifyFront
   unify-args f g us vs e h =
       unify-cons (app f us) (app g vs) l r ∙ dite-yes (ℕ-discrete f g) _ _ e ∙ dite-yes (ℕ-discrete (count us) (count vs)) _ _ h
-
-  pub unify-count : (f g : ℕ) (us vs : Terms) → f ≡ g → count us ≢ count vs → unify (cons (app f us) l) (cons (app g vs) r) ≡ fails 1
-  unfolding unifyFront
-  unify-count f g us vs e h =
-      unify-cons (app f us) (app g vs) l r ∙ dite-yes (ℕ-discrete f g) _ _ e ∙ dite-no (ℕ-discrete (count us) (count vs)) _ _ h
 
   pub unify-differ : (f g : ℕ) (us vs : Terms) → f ≢ g → unify (cons (app f us) l) (cons (app g vs) r) ≡ fails 1
   unfolding unifyFront

@@ -5,11 +5,11 @@ use mathlib.Core.Path.{_≡_, refl, sym, _∙_, ap, ap₂, subst}
 use mathlib.Core.Logic.{dite, _↔_}
 use native.Mathlib.Decide.{ℕ-discrete}
 use native.Mathlib.Omega.{arith}
-use Rattle.rules.specs.Terms.{Term, Terms, var, app, nil, cons, sub, subs, occ, occs, sizes, _+++_, count}
-use Rattle.rules.specs.Unification.{Substitution, done, bind, apply, applys, Unification, fails, spent, solved, tick, bound, unifyFront, unifyStep, unifyRound, unifyWithin, unify}
+use Rattle.rules.specs.Terms.{Term, Terms, var, app, nil, cons, subs, occ, occs, sizes, _+++_, count}
+use Rattle.rules.specs.Unification.{Substitution, done, bind, applys, Unification, fails, spent, solved, tick, bound, unifyFront, unifyStep, unifyRound, unifyWithin, unify}
 use Rattle.rules.specs.Meaning.{Inds, node, inil, icons, Filling, eval, evals}
 use Rattle.rules.proofs.TermLaws.{occ-other}
-use Rattle.rules.proofs.Values.{assign, assign-at, assign-free, assign-same, sub-eval, subs-eval, occurs-check}
+use Rattle.rules.proofs.Values.{assign, assign-at, assign-free, assign-same, subs-eval, occurs-check}
 
 -- The equations are true under ν.
 abbrev pub Solves : Filling → Terms → Terms → Type 0
@@ -35,11 +35,7 @@ extend-same ν (bind x s es) h =
     let e : extend es ν ≡ ν = extend-same ν es (h .1) in
     ap (λ (μ : Filling). assign μ x (eval μ s)) e ∙ assign-same ν x (eval ν s) (h .0)
 
--- The value of a term after a substitution is its value under the changed filling.
-pub apply-eval : (ν : Filling) (es : Substitution) (t : Term) → eval ν (apply es t) ≡ eval (extend es ν) t
-apply-eval ν done t = refl
-apply-eval ν (bind x s es) t = apply-eval ν es (sub x s t) ∙ sub-eval (extend es ν) x s t
-
+-- The value of terms after a substitution is their value under the changed filling.
 pub applys-eval : (ν : Filling) (es : Substitution) (ts : Terms) → evals ν (applys es ts) ≡ evals (extend es ν) ts
 applys-eval ν done ts = refl
 applys-eval ν (bind x s es) ts = applys-eval ν es (subs x s ts) ∙ subs-eval (extend es ν) x s ts

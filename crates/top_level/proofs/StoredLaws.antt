@@ -169,7 +169,7 @@ module _ {S : List Symbol} {store : List ℕ} {parked held : ℕ} {l : Level} (h
           let front = ap (take (parked + held)) e ∙ parked-on store (writeGoals (l .parked)) (pendingWords g) ys parked held (goalWords g) parked-length lh n first-words .0 in
           sym (take-append-drop (parked + held) t) ∙ ap (_++ drop (parked + held) t) front ∙ simp append-assoc
 
-      pub parked-word : getD t parked 0 ≡ goalWords g
+      parked-word : getD t parked 0 ≡ goalWords g
       parked-word = ap (λ (r : List ℕ). getD r parked 0) last-first ∙ getD-at (writeGoals (l .parked)) (goalWords g) _ 0 parked parked-length
 
       pub goal-parked : (m : Mark) (w : ℕ) → w ≡ getD t parked 0 + 4096 * markNumber m

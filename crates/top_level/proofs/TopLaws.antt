@@ -1,5 +1,5 @@
 -- Level 0's run: after any number of steps the evaluation comes to what it comes to from the level that the store and the answer list hold; and how it ends.
-use Prim.Native.Nat.{ℕ, _+_, _-_, _≤_, _<_}
+use Prim.Native.Nat.{ℕ, suc, _+_, _-_, _≤_, _<_}
 use mathlib.Core.Path.{_≡_, refl, sym, _∙_, ap, subst}
 use mathlib.Core.List.{List, [], _∷_, _++_, reverse, append-nil}
 use native.Mathlib.Omega.{arith}
@@ -11,18 +11,20 @@ use Rattle.rules.specs.Syntax.{Symbol, Clause, Deck, Goal}
 use Rattle.rules.specs.Refusals.{accepted}
 use Rattle.rules.specs.Decks.{openDeck}
 use Rattle.rules.specs.Goals.{unmarked, goalWords, writeGoals, wordsOf, markedWords}
-use Rattle.rules.specs.Evaluation.{Stop, finished, budget, answers, Level, zeroth, held, withPending, withParked, withAnswer, noLiterals, step, answerStep, actStep, checkStore, nextOf, ended, stopped, evaluateLevel}
+use Rattle.rules.specs.Evaluation as rules
+use Rattle.rules.specs.Evaluation.{Level, zeroth, held, withPending, withParked, withAnswer, noLiterals, step, answerStep, actStep, checkStore, nextOf, ended, stopped, evaluateLevel}
 use Rattle.rules.proofs.GoalLaws.{goals-length, goals-append, unmarked-append, unmarked-words, wordsOf-append}
 use Rattle.rules.proofs.LevelLaws.{level-empty, level-spent, level-halts, level-steps}
-use Rattle.report.specs.Reports.{stopOf}
-use Rattle.report.specs.declared.Stop as report
-use Rattle.report.specs.declared.Stop.the-variants.{Finished}
-use Rattle.resolvents.specs.Deriving.{Rows}
+use Rattle.report.specs.declared.Stop.the-variants.{Finished, Budget, Answers}
 use Rattle.goals.specs.Store.{Holding, SomeFirst, markOf}
 use Rattle.levels.specs.Levels.{Stands, Turned}
-use Rattle.top_level.specs.Top.{Stored, Ordered, Topped}
+use Rattle.top_level.specs.Top.{Stored, Ordered, Topped, Started, started, begun, evaluates, Lists, Goes, Stops, Bare, Waits, moved, Stepped, Due}
 use Rattle.goals.specs.declared.Mark as declared
 use Rattle.top_level.specs.declared.Counts.{Counts}
+use Rattle.top_level.specs.declared.Progress.{Progress}
+use Rattle.top_level.specs.declared.End.{End}
+use Rattle.top_level.specs.declared.Next.{Next}
+use Rattle.top_level.specs.declared.Next.the-variants.{On, Ends}
 use Rattle.levels.specs.declared.Turn.{Turn}
 use Rattle.levels.specs.declared.Turn.the-variants.{Empty, Park, More, Stopped}
 use Rattle.goals.proofs.HeldLaws.{pendingWords, goals-first, cells-length, FirstOf, first-of, none-held}
@@ -45,65 +47,29 @@ module _ (clauses : List Clause) (answerRoom storeSize below : ℕ) (g : Goal) (
       ∙ ap (λ (n : ℕ). evaluateLevel clauses answerRoom storeSize below zeroth (withAnswer g gs l) n) (one-less clauses below 0 g gs total used pays)
 
   pub unlisted : answerRoom < wordsOf (l .answers) + goalWords g
-      → evaluateLevel clauses answerRoom storeSize below zeroth l (total - used) ≡ ended (stopped answers) l (total - used)
+      → evaluateLevel clauses answerRoom storeSize below zeroth l (total - used) ≡ ended (stopped rules.answers) l (total - used)
   unfolding answerStep checkStore
   unlisted f =
-      level-halts clauses answerRoom storeSize below zeroth l (total - used) answers
+      level-halts clauses answerRoom storeSize below zeroth l (total - used) rules.answers
       (next ∙ rw (lt-leb (wordsOf (l .answers) + goalWords g) answerRoom f, answerStep))
 
-abbrev begun : List Goal → Level
-begun gs = record { pending = gs; parked = []; answers = [] }
-
--- What the answer list holds: the words of the answers, then what was there.
-pub record Lists (l : Level) (answers₀ answers′ : List ℕ) (used count : ℕ) : Type 0 where
-  pub listed : answers′ ≡ writeGoals (unmarked (l .answers)) ++ drop used answers₀
-  pub words : used ≡ wordsOf (l .answers)
-  pub counted : count ≡ length (l .answers)
-
--- What holds of the slices in each turn and at the end.
-pub record Sizes (store₀ cells₀ store cells bind trail marks names order child : List ℕ) : Type 0 where
-  pub rows : Rows bind trail marks names order child
-  pub storeLength : length store ≡ length store₀
-  pub cellsLength : length cells ≡ length cells₀
-
--- After a step, which left `part` past the parked goals.
-pub sizes-kept : {store₀ cells₀ store cells bind trail marks names order child cells′ bind′ trail′ marks′ names′ order′ child′ : List ℕ} (parked : ℕ) (part : List ℕ)
-    → Sizes store₀ cells₀ store cells bind trail marks names order child → length part ≡ length (midOf parked (length store - parked) store) → length cells′ ≡ length cells
-    → Rows bind′ trail′ marks′ names′ order′ child′ → Sizes store₀ cells₀ (putMid parked (length store - parked) store part) cells′ bind′ trail′ marks′ names′ order′ child′
-sizes-kept {store = store} parked part s long same rows =
-    record { rows = rows; storeLength = same-len-mid parked (length store - parked) store part long ∙ s .storeLength; cellsLength = same ∙ s .cellsLength }
-
--- What holds of the counts in each turn.
-pub record Counted (answers₀ answers′ : List ℕ) (total steps used count : ℕ) (stop : report.Stop) : Type 0 where
-  pub answersLength : length answers′ ≡ length answers₀
-  pub paid : steps ≤ total
-  pub few : count ≤ steps
-  pub inside : used ≤ length answers₀
-  pub running : stop ≡ Finished
-
--- The run that started on the goals gs, after `steps` steps.
-pub record Goes (d : Deck) (answers₀ store₀ : List ℕ) (gs : List Goal) (total : ℕ) (answers′ store : List ℕ) (parked held′ steps used count : ℕ) : Type 0 where
-  pub level : Level
-  pub same :
-      evaluateLevel (d .clauses) (length answers₀) (length store₀) 32 zeroth (begun gs) total
-      ≡ evaluateLevel (d .clauses) (length answers₀) (length store₀) 32 zeroth level (total - steps)
-  pub stored : Stored (d .symbols) store parked held′ level
-  pub lists′ : Lists level answers₀ answers′ used count
-
--- Its end.
-pub record Ends (d : Deck) (answers₀ store₀ : List ℕ) (gs : List Goal) (total : ℕ) (answers′ store : List ℕ) (parked held′ steps used count : ℕ) (stop : Stop) : Type 0 where
-  pub level : Level
-  pub same : evaluateLevel (d .clauses) (length answers₀) (length store₀) 32 zeroth (begun gs) total ≡ ended (stopped stop) level (total - steps)
-  pub within : steps ≤ total
-  pub stored : Stored (d .symbols) store parked held′ level
-  pub lists′ : Lists level answers₀ answers′ used count
-
-pub goes-first : {d : Deck} {answers₀ store₀ : List ℕ} {gs : List Goal} {total held′ : ℕ} → Holding (d .symbols) store₀ held′ gs
-    → Goes d answers₀ store₀ gs total answers₀ store₀ 0 held′ 0 0 0
+pub goes-first : {d : Deck} {answers store : List ℕ} {gs : List Goal} {budget start : ℕ} → Holding (d .symbols) store start gs
+    → Goes (started d answers store gs budget) answers store (record { parked = 0; held = start; used = 0; filled = 0; listed = 0 })
 unfolding writeGoals
-goes-first {gs = gs} {total} h =
-    let n : total ≡ total - 0 = omega arith in
-    record { level = begun gs; same = ap (evaluateLevel _ _ _ 32 zeroth (begun gs)) n; stored = stored-first h; lists′ = record { listed = refl; words = refl; counted = refl } }
+goes-first {d} {answers} {store} {gs} {budget} h =
+    let s = started d answers store gs budget in
+    let n : budget ≡ budget - 0 = omega arith in
+    record {
+      level = begun s;
+      same = ap (evaluates s (begun s)) n;
+      stored = stored-first h;
+      lists = record { listed = refl; words = refl; counted = refl };
+      size = refl;
+      room = refl;
+      inside = omega arith;
+      paid = omega arith;
+      few = omega arith;
+    }
 
 -- One more answer.
 answer-listed : {l : Level} {answers₀ answers′ : List ℕ} {used count : ℕ} (g : Goal) (gs : List Goal) (answers″ : List ℕ) → Lists l answers₀ answers′ used count
@@ -128,182 +94,234 @@ answer-listed {l} {answers₀} {answers′} {used} {count} g gs answers″ h f e
       counted = omega (arith, h .counted, length-append (l .answers) (g ∷ []));
     }
 
-module _ {d : Deck} {answers₀ store₀ : List ℕ} {gs : List Goal} {total : ℕ} {answers′ store : List ℕ} {parked held′ steps used count : ℕ}
-    (r : Goes d answers₀ store₀ gs total answers′ store parked held′ steps used count) where
+module _ {s : Started} {answers store : List ℕ} {p : Progress} (r : Goes s answers store p) where
   -- NOTHING IS HELD
-  pub ends-empty : (s : report.Stop) → s ≡ Finished → held′ ≤ 0 → steps ≤ total
-      → Ends d answers₀ store₀ gs total answers′ store parked held′ steps used count (stopOf s)
-  ends-empty s e z w =
-      let ends : Ends d answers₀ store₀ gs total answers′ store parked held′ steps used count finished = record {
-        level = r .level;
-        within = w;
-        same = r .same ∙ level-empty (d .clauses) (length answers₀) (length store₀) 32 zeroth (r .level) (total - steps) (none-held (r .level .pending) (r .stored .pending) z);
-        stored = r .stored;
-        lists′ = r .lists′;
-      } in
-      rw e ends
+  pub stops-empty : p .held ≤ 0 → Stops s answers store (record { stop = Finished; at = p })
+  stops-empty z = record {
+    level = r .level;
+    same =
+        r .same
+        ∙ level-empty (s .deck .clauses) (length (s .answers)) (length (s .store)) 32 zeroth (r .level) (s .budget - p .used) (none-held (r .level .pending) (r .stored .pending) z);
+    stored = r .stored;
+    lists = r .lists;
+    size = r .size;
+    room = r .room;
+    paid = r .paid;
+  }
 
   -- SOMETHING IS HELD
-  module _ (some : 0 < held′) where
+  module _ (some : 0 < p .held) where
     first : FirstOf (r .level .pending)
     first = first-of (r .level .pending) (r .stored .pending) some
 
-    first-held : Holding (d .symbols) (drop parked store) held′ (first .first ∷ first .rest)
-    first-held = subst (Holding (d .symbols) (drop parked store) held′) (first .same) (r .stored .pending)
+    first-held : Holding (s .deck .symbols) (drop (p .parked) store) (p .held) (first .first ∷ first .rest)
+    first-held = subst (Holding (s .deck .symbols) (drop (p .parked) store) (p .held)) (first .same) (r .stored .pending)
 
-    pub some-first : (deckWords : List ℕ) → openDeck deckWords ≡ accepted d → SomeFirst deckWords (midOf parked (length store - parked) store) held′
-    some-first deckWords o = rw (part-all store parked (r .stored .inside)) (record { deck = d; first = first .first; goals = first .rest; opens = o; holding = first-held })
+    pub some-first : (deckWords : List ℕ) → openDeck deckWords ≡ accepted (s .deck) → SomeFirst deckWords (midOf (p .parked) (length store - p .parked) store) (p .held)
+    some-first deckWords o = rw (part-all store (p .parked) (r .stored .inside)) (record { deck = s .deck; first = first .first; goals = first .rest; opens = o; holding = first-held })
 
-    pub ends-spent : steps ≡ total → Ends d answers₀ store₀ gs total answers′ store parked held′ steps used count budget
-    ends-spent e =
-        let z : total - steps ≡ 0 = omega arith in
+    pub stops-spent : p .used ≡ s .budget → Stops s answers store (record { stop = Budget; at = p })
+    stops-spent e =
+        let z : s .budget - p .used ≡ 0 = omega arith in
         record {
           level = r .level;
-          within = omega arith;
-          same = r .same ∙ rw (z, level-spent (d .clauses) (length answers₀) (length store₀) 32 zeroth (r .level) (first .first) (first .rest) (first .same));
+          same =
+              r .same
+              ∙ rw (z, level-spent (s .deck .clauses) (length (s .answers)) (length (s .store)) 32 zeroth (r .level) (first .first) (first .rest) (first .same));
           stored = r .stored;
-          lists′ = r .lists′;
+          lists = r .lists;
+          size = r .size;
+          room = r .room;
+          paid = r .paid;
         }
 
     -- A STEP, which leaves `part` past the parked goals.
-    module _ (size : length store ≡ length store₀) (deckWords : List ℕ) (opens : openDeck deckWords ≡ accepted d) (part : List ℕ)
-        (long : length part ≡ length (midOf parked (length store - parked) store)) where
-      -- What the step came to, whatever the deck and the first goal.
-      abbrev Took : Turn → Type 0
-      Took t =
-          (d′ : Deck) (g : Goal) (hs : List Goal) → openDeck deckWords ≡ accepted d′ → Holding (d′ .symbols) (midOf parked (length store - parked) store) held′ (g ∷ hs)
-          → Turned d′ 32 (midOf parked (length store - parked) store) held′ total steps g hs part t
-
+    module _ (pays : p .used < s .budget) (deckWords : List ℕ) (opens : openDeck deckWords ≡ accepted (s .deck)) (part : List ℕ)
+        (long : length part ≡ length (midOf (p .parked) (length store - p .parked) store)) where
       -- The store with the part in its place.
-      abbrev stepped : List ℕ
-      stepped = putMid parked (length store - parked) store part
+      abbrev stepped-store : List ℕ
+      stepped-store = putMid (p .parked) (length store - p .parked) store part
 
-      back : stepped ≡ take parked store ++ part
-      back = put-all store part parked (r .stored .inside)
+      back : stepped-store ≡ take (p .parked) store ++ part
+      back = put-all store part (p .parked) (r .stored .inside)
 
-      part-long : length part ≡ length (drop parked store)
-      part-long = long ∙ ap length (part-all store parked (r .stored .inside))
+      part-long : length part ≡ length (drop (p .parked) store)
+      part-long = long ∙ ap length (part-all store (p .parked) (r .stored .inside))
 
-      turned : (t : Turn) → Took t → Turned d 32 (drop parked store) held′ total steps (first .first) (first .rest) part t
-      turned t k =
-          let e = part-all store parked (r .stored .inside) in
-          (rw e at k) d (first .first) (first .rest) opens first-held
+      all-long : length stepped-store ≡ length (s .store)
+      all-long = same-len-mid (p .parked) (length store - p .parked) store part long ∙ r .size
 
-      stands : Stands zeroth (r .level) (first .first ∷ first .rest) (length (drop parked store)) (length store₀)
-      stands = subst (Stands zeroth (r .level) (first .first ∷ first .rest) (length (drop parked store))) size (stored-stands (r .stored) (first .first ∷ first .rest) (first .same))
+      stands : Stands zeroth (r .level) (first .first ∷ first .rest) (length (drop (p .parked) store)) (length (s .store))
+      stands =
+          subst (Stands zeroth (r .level) (first .first ∷ first .rest) (length (drop (p .parked) store))) (r .size)
+          (stored-stands (r .stored) (first .first ∷ first .rest) (first .same))
 
-      -- The run stops.
-      pub ends-stopped : (t : Turn) → Took t → (s : report.Stop) (k : ℕ) → t ≡ Stopped s k
-          → Ends d answers₀ store₀ gs total answers′ stepped parked held′ k used count (stopOf s)
-      ends-stopped t took s k e =
-          let u : Turned d 32 (drop parked store) held′ total steps (first .first) (first .rest) part (Stopped s k) = rw e at (turned t took) in
-          record {
-            level = r .level;
-            within = u .1;
-            same = r .same ∙ u .3 (length answers₀) (length store₀) zeroth (r .level) stands;
-            stored = kept-back (r .stored) part back part-long (u .2);
-            lists′ = r .lists′;
-          }
+      -- The first goals are as they were.
+      unchanged : take (p .held) part ≡ take (p .held) (drop (p .parked) store) → Goes s answers stepped-store p
+      unchanged e = record {
+        level = r .level;
+        same = r .same;
+        stored = kept-back (r .stored) part back part-long e;
+        lists = r .lists;
+        size = all-long;
+        room = r .room;
+        inside = r .inside;
+        paid = r .paid;
+        few = r .few;
+      }
 
-      -- It goes on with other goals.
-      pub goes-on : (t : Turn) → Took t → (h k : ℕ) → t ≡ More h k
-          → (steps < k) × (k ≤ total) × Goes d answers₀ store₀ gs total answers′ stepped parked h k used count
-      unfolding withPending
-      goes-on t took h k e =
-          let u : Turned d 32 (drop parked store) held′ total steps (first .first) (first .rest) part (More h k) = rw e at (turned t took) in (
-            u .0,
-            u .1,
-            record {
-              level = withPending (u .2 .0) (r .level);
-              same = r .same ∙ u .2 .2 (length answers₀) (length store₀) zeroth (r .level) stands;
-              stored = put-back (r .stored) part back h (u .2 .0) (u .2 .1);
-              lists′ = record { listed = r .lists′ .listed; words = r .lists′ .words; counted = r .lists′ .counted };
-            },
-          )
+      by-turn : (t : Turn) → Turned (s .deck) 32 (drop (p .parked) store) (p .held) (s .budget) (p .used) (first .first) (first .rest) part t
+          → Stepped s answers stepped-store p t
+      unfolding withPending unchanged
+      by-turn Empty u = record { goes = unchanged (u .1); goal = first .first; others = first .rest; first = first .same; empty = u .0; pays = pays }
+      by-turn (Park m k) u = record {
+        goes = unchanged (u .2);
+        goal = first .first;
+        others = first .rest;
+        first = first .same;
+        later = u .0;
+        pays = u .1;
+        same = u .3 (length (s .answers)) (length (s .store)) zeroth (r .level) stands;
+      }
+      by-turn (More h k) u = (
+        u .0,
+        record {
+          level = withPending (u .2 .0) (r .level);
+          same = r .same ∙ u .2 .2 (length (s .answers)) (length (s .store)) zeroth (r .level) stands;
+          stored = put-back (r .stored) part back h (u .2 .0) (u .2 .1);
+          lists = record { listed = r .lists .listed; words = r .lists .words; counted = r .lists .counted };
+          size = all-long;
+          room = r .room;
+          inside = r .inside;
+          paid = u .1;
+          few = omega (arith, r .few, u .0);
+        },
+      )
+      by-turn (Stopped why k) u = record {
+        level = r .level;
+        same = r .same ∙ u .3 (length (s .answers)) (length (s .store)) zeroth (r .level) stands;
+        stored = kept-back (r .stored) part back part-long (u .2);
+        lists = r .lists;
+        size = all-long;
+        room = r .room;
+        paid = u .1;
+      }
 
-      -- The goal is to be parked.
-      module _ (t : Turn) (took : Took t) (m : declared.Mark) (k : ℕ) (e : t ≡ Park m k) where
-        parking : Turned d 32 (drop parked store) held′ total steps (first .first) (first .rest) part (Park m k)
-        parking = rw e at (turned t took)
+      -- What a step came to, whatever the deck and the first goal.
+      pub stepped : (t : Turn)
+          → ((d : Deck) (g : Goal) (gs : List Goal) → openDeck deckWords ≡ accepted d
+          → Holding (d .symbols) (midOf (p .parked) (length store - p .parked) store) (p .held) (g ∷ gs)
+          → Turned d 32 (midOf (p .parked) (length store - p .parked) store) (p .held) (s .budget) (p .used) g gs part t)
+          → Stepped s answers stepped-store p t
+      stepped t took =
+          let e = part-all store (p .parked) (r .stored .inside) in
+          by-turn t ((rw e at took) (s .deck) (first .first) (first .rest) opens first-held)
 
-        pub parks-later : (steps < k) × (k ≤ total)
-        parks-later = (parking .0, parking .1)
+-- Where a goal is pending, words are held.
+some-held : {S : List Symbol} {store : List ℕ} {parked held′ : ℕ} {l : Level} {g : Goal} {gs : List Goal} → Stored S store parked held′ l → l .pending ≡ g ∷ gs → 0 < held′
+some-held {g = g} {gs} h e = omega (arith, first-fits h g gs e, cells-length g)
 
-        pub parks-stored : Stored (d .symbols) stepped parked held′ (r .level)
-        parks-stored = kept-back (r .stored) part back part-long (parking .2)
+-- The first pending goal has no literals: its words go to the answer list, or there is no room for them.
+module _ {s : Started} {answers store : List ℕ} {p : Progress} (b : Bare s answers store p) where
+  pub bare-held : 0 < p .held
+  bare-held = some-held (b .goes .stored) (b .first)
 
-        -- What parking leaves, whatever the first goal.
-        abbrev Parks : ℕ → List ℕ → Type 0
-        Parks n store″ = (S : List Symbol) (l : Level) (g : Goal) (hs : List Goal) → l .pending ≡ g ∷ hs → Stored S stepped parked held′ l
-            → (n ≡ goalWords g) × (n ≤ held′) × Stored S store″ (parked + n) (held′ - n) (withParked (markOf m) g hs l)
+  bare-size : getD store (p .parked + p .held - 1) 0 ≡ goalWords (b .goal)
+  bare-size = first-word (b .goes .stored) (b .goal) (b .others) (b .first)
 
-        pub goes-parked : (n : ℕ) (store″ : List ℕ) → Parks n store″
-            → (n ≤ held′) × Goes d answers₀ store₀ gs total answers′ store″ (parked + n) (held′ - n) k used count
-        unfolding withParked
-        goes-parked n store″ s =
-            let v = s (d .symbols) (r .level) (first .first) (first .rest) (first .same) parks-stored in (
-              v .1,
-              record {
-                level = withParked (markOf m) (first .first) (first .rest) (r .level);
-                same = r .same ∙ parking .3 (length answers₀) (length store₀) zeroth (r .level) stands;
-                stored = v .2;
-                lists′ = record { listed = r .lists′ .listed; words = r .lists′ .words; counted = r .lists′ .counted };
-              },
-            )
+  pub stops-unlisted : length answers - p .filled < getD store (p .parked + p .held - 1) 0 → Stops s answers store (record { stop = Answers; at = p })
+  stops-unlisted f =
+      let r = b .goes in
+      record {
+        level = r .level;
+        same =
+            r .same
+            ∙ unlisted (s .deck .clauses) (length (s .answers)) (length (s .store)) 32 (b .goal) (b .others) (s .budget) (p .used) (b .pays) (r .level) (b .first)
+            (b .empty) (omega (arith, bare-size, r .lists .words, r .room, r .inside));
+        stored = r .stored;
+        lists = r .lists;
+        size = r .size;
+        room = r .room;
+        paid = r .paid;
+      }
 
-      -- The goal has no literals: its words, n of them, go to the answer list, or there is no room for them.
-      module _ (t : Turn) (took : Took t) (e : t ≡ Empty) where
-        bare-goal : Turned d 32 (drop parked store) held′ total steps (first .first) (first .rest) part Empty
-        bare-goal = rw e at (turned t took)
+  pub goes-listed : (answers′ : List ℕ) → p .filled + getD store (p .parked + p .held - 1) 0 ≤ length answers
+      → answers′ ≡ sets answers (p .filled) (take (getD store (p .parked + p .held - 1) 0) (reverse (take (p .parked + p .held) store)))
+      → length answers′ ≡ length answers
+      → let n = getD store (p .parked + p .held - 1) 0 in
+      Goes s answers′ store (record { parked = p .parked; held = p .held - n; used = p .used + 1; filled = p .filled + n; listed = p .listed + 1 })
+  goes-listed answers′ f q same-room =
+      let r = b .goes in
+      record {
+        level = withAnswer (b .goal) (b .others) (r .level);
+        same =
+            r .same
+            ∙ lists (s .deck .clauses) (length (s .answers)) (length (s .store)) 32 (b .goal) (b .others) (s .budget) (p .used) (b .pays) (r .level) (b .first) (b .empty)
+            (omega (arith, bare-size, r .lists .words, r .room)) (omega (arith, stored-inside (r .stored), parked-words (r .stored), first-fits (r .stored) (b .goal) (b .others) (b .first), r .size));
+        stored = rw bare-size (rest-stored (r .stored) (b .goal) (b .others) (b .first));
+        lists = rw bare-size (answer-listed (b .goal) (b .others) answers′ (r .lists) (omega (arith, bare-size, r .room))
+            (q ∙ ap (sets answers (p .filled)) (ap (λ (k : ℕ). take k (reverse (take (p .parked + p .held) store))) bare-size ∙ first-copied (r .stored) (b .goal) (b .others) (b .first))));
+        size = r .size;
+        room = same-room ∙ r .room;
+        inside = omega arith;
+        paid = omega (arith, b .pays);
+        few = omega (arith, r .few);
+      }
 
-        pub bare-stored : Stored (d .symbols) stepped parked held′ (r .level)
-        bare-stored = kept-back (r .stored) part back part-long (bare-goal .1)
+-- The first pending goal is parked.
+module _ {s : Started} {answers store : List ℕ} {p : Progress} {m : declared.Mark} {k : ℕ} (w : Waits s answers store p m k) where
+  pub waits-held : 0 < p .held
+  waits-held = some-held (w .goes .stored) (w .first)
 
-        bare-size : getD stepped (parked + held′ - 1) 0 ≡ goalWords (first .first)
-        bare-size = first-word bare-stored (first .first) (first .rest) (first .same)
+  -- What parking leaves, whatever the first goal.
+  abbrev Parks : ℕ → List ℕ → Type 0
+  Parks n store′ = (S : List Symbol) (l : Level) (g : Goal) (gs : List Goal) → l .pending ≡ g ∷ gs → Stored S store (p .parked) (p .held) l
+      → (n ≡ goalWords g) × (n ≤ p .held) × Stored S store′ (p .parked + n) (p .held - n) (withParked (markOf m) g gs l)
 
-        pub ends-unlisted : steps < total → used ≤ length answers₀ → length answers₀ - used < getD stepped (parked + held′ - 1) 0
-            → Ends d answers₀ store₀ gs total answers′ stepped parked held′ steps used count answers
-        ends-unlisted pays w f =
-            record {
-              level = r .level;
-              within = omega arith;
-              same =
-                  r .same
-                  ∙ unlisted (d .clauses) (length answers₀) (length store₀) 32 (first .first) (first .rest) total steps pays (r .level) (first .same)
-                  (bare-goal .0) (omega (arith, bare-size, r .lists′ .words));
-              stored = bare-stored;
-              lists′ = r .lists′;
-            }
+  pub parks-within : (n : ℕ) (store′ : List ℕ) → Parks n store′ → n ≤ p .held
+  parks-within n store′ z = z (s .deck .symbols) (w .goes .level) (w .goal) (w .others) (w .first) (w .goes .stored) .1
 
-        pub goes-listed : (answers″ : List ℕ) → steps < total → used + getD stepped (parked + held′ - 1) 0 ≤ length answers₀
-            → answers″ ≡ sets answers′ used (take (getD stepped (parked + held′ - 1) 0) (reverse (take (parked + held′) stepped)))
-            → let n = getD stepped (parked + held′ - 1) 0 in Goes d answers₀ store₀ gs total answers″ stepped parked (held′ - n) (steps + 1) (used + n) (count + 1)
-        goes-listed answers″ pays f q =
-            let g = first .first in
-            let hs = first .rest in
-            let all : length stepped ≡ length store₀ = same-len-mid parked (length store - parked) store part long ∙ size in
-            record {
-              level = withAnswer g hs (r .level);
-              same =
-                  r .same
-                  ∙ lists (d .clauses) (length answers₀) (length store₀) 32 g hs total steps pays (r .level) (first .same) (bare-goal .0)
-                  (omega (arith, bare-size, r .lists′ .words)) (omega (arith, stored-inside bare-stored, parked-words bare-stored, first-fits bare-stored g hs (first .same)));
-              stored = rw bare-size (rest-stored bare-stored g hs (first .same));
-              lists′ = rw bare-size (answer-listed g hs answers″ (r .lists′) (omega (arith, bare-size))
-                  (q ∙ ap (sets answers′ used) (ap (λ (k : ℕ). take k (reverse (take (parked + held′) stepped))) bare-size ∙ first-copied bare-stored g hs (first .same))));
-            }
+  pub goes-parked : (n : ℕ) (store′ : List ℕ) → Parks n store′ → length store′ ≡ length store
+      → Goes s answers store′ (record { parked = p .parked + n; held = p .held - n; used = k; filled = p .filled; listed = p .listed })
+  unfolding withParked
+  goes-parked n store′ z e =
+      let r = w .goes in
+      record {
+        level = withParked (markOf m) (w .goal) (w .others) (r .level);
+        same = r .same ∙ w .same;
+        stored = z (s .deck .symbols) (r .level) (w .goal) (w .others) (w .first) (r .stored) .2;
+        lists = record { listed = r .lists .listed; words = r .lists .words; counted = r .lists .counted };
+        size = e ∙ r .size;
+        room = r .room;
+        inside = r .inside;
+        paid = w .pays;
+        few = omega (arith, r .few, w .later);
+      }
+
+-- How many turns are left at most.
+abbrev pub left : ℕ → Next → ℕ
+left budget (On p) = suc (budget - p .used)
+left budget (Ends e) = 0
+
+module _ (s : Started) (k : ℕ) (answers store : List ℕ) where
+  pub due-less : (r : Next) → Due s (k + 1) answers store r → left (s .budget) r < suc (s .budget - k)
+  due-less (On p) u = omega (arith, u .0, u .2)
+  due-less (Ends e) u = omega arith
+
+  pub due-any : (r : Next) → Due s k answers store r → Due s 0 answers store r
+  due-any (On p) u = (omega arith, u .1, u .2, u .3)
+  due-any (Ends e) u = u
 
 -- The end, with the goals put in order.
-pub topped : {d : Deck} {answers₀ store₀ : List ℕ} {gs : List Goal} {total : ℕ} {answers′ store : List ℕ} {parked held′ steps used count : ℕ} (s : report.Stop)
-    (store″ : List ℕ) (c : Counts) → Ends d answers₀ store₀ gs total answers′ store parked held′ steps used count (stopOf s)
-    → ((l : Level) → Stored (d .symbols) store parked held′ l → Ordered l store″ c)
-    → Topped d answers₀ store₀ gs total answers′ store″ (record { stop = s; steps = steps; answers = count; pending = c .pending; parked = c .parked })
-topped {answers₀ = answers₀} {answers′ = answers′} s store″ c e o = record {
-  level = e .level;
-  ends = e .same;
-  within = e .within;
-  listed = e .lists′ .listed ∙ ap (λ (n : ℕ). writeGoals (unmarked (e .level .answers)) ++ drop n answers₀) (e .lists′ .words);
-  answered = e .lists′ .counted;
-  ordered = o (e .level) (e .stored);
+pub topped : {s : Started} {answers store : List ℕ} (e : End) (store′ : List ℕ) (c : Counts) → Stops s answers store e
+    → ((l : Level) → Stored (s .deck .symbols) store (e .at .parked) (e .at .held) l → Ordered l store′ c)
+    → Topped (s .deck) (s .answers) (s .store) (s .goals) (s .budget) answers store′
+    (record { stop = e .stop; steps = e .at .used; answers = e .at .listed; pending = c .pending; parked = c .parked })
+topped {s} e store′ c h o = record {
+  level = h .level;
+  ends = h .same;
+  within = h .paid;
+  listed = h .lists .listed ∙ ap (λ (n : ℕ). writeGoals (unmarked (h .level .answers)) ++ drop n (s .answers)) (h .lists .words);
+  answered = h .lists .counted;
+  ordered = o (h .level) (h .stored);
 }

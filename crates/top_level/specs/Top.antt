@@ -1,19 +1,26 @@
 -- Level 0 in the store: the parked goals from its start, in order of parking, then the pending goals as a mirror image.
-use Prim.Native.Nat.{ℕ, _-_, _≤_}
+use Prim.Native.Nat.{ℕ, _-_, _≤_, _<_}
 use mathlib.Core.Path.{_≡_}
 use mathlib.Core.Option.{some}
-use mathlib.Core.List.{List, [], _++_}
+use mathlib.Core.List.{List, [], _∷_, _++_}
 use lib.ListN.{length, take, drop}
 use Rattle.rules.specs.Syntax.{Symbol, Literal, Deck, Goal}
 use Rattle.rules.specs.Cells.{writeLiterals}
 use Rattle.rules.specs.Decks.{readAll, readSymbol}
 use Rattle.rules.specs.Goals.{Marked, unmarked, wordsOf, writeGoals}
 use Rattle.rules.specs.WellFormed.{All, WfMarked, WfQuery}
-use Rattle.rules.specs.Evaluation.{Level, evaluateLevel, zeroth, ended, stopped}
+use Rattle.rules.specs.Evaluation.{Level, Ended, evaluateLevel, zeroth, ended, stopped, withParked}
 use Rattle.report.specs.Reports.{stopOf}
 use Rattle.report.specs.declared.Report.{Report}
-use Rattle.goals.specs.Store.{Holding}
+use Rattle.goals.specs.Store.{Holding, markOf}
+use Rattle.goals.specs.declared.Mark as declared
+use Rattle.levels.specs.declared.Turn.{Turn}
+use Rattle.levels.specs.declared.Turn.the-variants.{Empty, Park, More, Stopped}
 use Rattle.top_level.specs.declared.Counts.{Counts}
+use Rattle.top_level.specs.declared.Progress.{Progress}
+use Rattle.top_level.specs.declared.End.{End}
+use Rattle.top_level.specs.declared.Next.{Next}
+use Rattle.top_level.specs.declared.Next.the-variants.{On, Ends}
 
 pub record Stored (S : List Symbol) (store : List ℕ) (parked held : ℕ) (l : Level) : Type 0 where
   pub inside : parked ≤ length store
@@ -53,6 +60,104 @@ pub record Ordered (l : Level) (store : List ℕ) (c : Counts) : Type 0 where
   pub begins : take (length (writeGoals (unmarked (l .pending) ++ l .parked))) store ≡ writeGoals (unmarked (l .pending) ++ l .parked)
   pub pending : c .pending ≡ length (l .pending)
   pub parked : c .parked ≡ length (l .parked)
+
+-- What level 0's run was started on.
+pub record Started : Type 0 where
+  pub deck : Deck
+  pub answers : List ℕ
+  pub store : List ℕ
+  pub goals : List Goal
+  pub budget : ℕ
+
+abbrev pub started : Deck → List ℕ → List ℕ → List Goal → ℕ → Started
+started d answers store gs budget = record { deck = d; answers = answers; store = store; goals = gs; budget = budget }
+
+-- The level at its start, and the evaluation from a level.
+abbrev pub begun : Started → Level
+begun s = record { pending = s .goals; parked = []; answers = [] }
+
+abbrev pub evaluates : Started → Level → ℕ → Ended
+evaluates s l left = evaluateLevel (s .deck .clauses) (length (s .answers)) (length (s .store)) 32 zeroth l left
+
+-- The answer list: the words of the answers of l, which are `count`; then what was there.
+pub record Lists (l : Level) (answers₀ answers : List ℕ) (filled count : ℕ) : Type 0 where
+  pub listed : answers ≡ writeGoals (unmarked (l .answers)) ++ drop filled answers₀
+  pub words : filled ≡ wordsOf (l .answers)
+  pub counted : count ≡ length (l .answers)
+
+-- The run between two steps, and its end.
+pub record Goes (s : Started) (answers store : List ℕ) (p : Progress) : Type 0 where
+  pub level : Level
+  pub same : evaluates s (begun s) (s .budget) ≡ evaluates s level (s .budget - p .used)
+  pub stored : Stored (s .deck .symbols) store (p .parked) (p .held) level
+  pub lists : Lists level (s .answers) answers (p .filled) (p .listed)
+  pub size : length store ≡ length (s .store)
+  pub room : length answers ≡ length (s .answers)
+  pub inside : p .filled ≤ length answers
+  pub paid : p .used ≤ s .budget
+  pub few : p .listed ≤ p .used
+
+pub record Stops (s : Started) (answers store : List ℕ) (e : End) : Type 0 where
+  pub level : Level
+  pub same : evaluates s (begun s) (s .budget) ≡ ended (stopped (stopOf (e .stop))) level (s .budget - e .at .used)
+  pub stored : Stored (s .deck .symbols) store (e .at .parked) (e .at .held) level
+  pub lists : Lists level (s .answers) answers (e .at .filled) (e .at .listed)
+  pub size : length store ≡ length (s .store)
+  pub room : length answers ≡ length (s .answers)
+  pub paid : e .at .used ≤ s .budget
+
+pub record SomeStops (store : List ℕ) (e : End) : Type 0 where
+  pub started : Started
+  pub answers : List ℕ
+  pub is : Stops started answers store e
+
+-- The first pending goal has no literals, and there is a step left.
+pub record Bare (s : Started) (answers store : List ℕ) (p : Progress) : Type 0 where
+  pub goes : Goes s answers store p
+  pub goal : Goal
+  pub others : List Goal
+  pub first : goes .level .pending ≡ goal ∷ others
+  pub empty : goal .literals ≡ []
+  pub pays : p .used < s .budget
+
+pub record SomeBare (answers store : List ℕ) (p : Progress) : Type 0 where
+  pub started : Started
+  pub is : Bare started answers store p
+
+-- The first pending goal is to be parked, and then k steps are used.
+pub record Waits (s : Started) (answers store : List ℕ) (p : Progress) (m : declared.Mark) (k : ℕ) : Type 0 where
+  pub goes : Goes s answers store p
+  pub goal : Goal
+  pub others : List Goal
+  pub first : goes .level .pending ≡ goal ∷ others
+  pub later : p .used < k
+  pub pays : k ≤ s .budget
+  pub same : evaluates s (goes .level) (s .budget - p .used) ≡ evaluates s (withParked (markOf m) goal others (goes .level)) (s .budget - k)
+
+-- After h words are pending and k steps are used.
+abbrev pub moved : Progress → ℕ → ℕ → Progress
+moved p h k = record { parked = p .parked; held = h; used = k; filled = p .filled; listed = p .listed }
+
+-- What a step came to at level 0.
+abbrev pub Stepped : Started → List ℕ → List ℕ → Progress → Turn → Type 0
+Stepped s answers store p Empty = Bare s answers store p
+Stepped s answers store p (Park m k) = Waits s answers store p m k
+Stepped s answers store p (More h k) = (p .used < k) × Goes s answers store (moved p h k)
+Stepped s answers store p (Stopped why k) = Stops s answers store (record { stop = why; at = moved p (p .held) k })
+
+pub record SomeStepped (answers store : List ℕ) (p : Progress) (t : Turn) : Type 0 where
+  pub started : Started
+  pub is : Stepped started answers store p t
+
+-- Level 0 after that, with at least k steps used.
+abbrev pub Follows : Started → ℕ → List ℕ → List ℕ → Next → Type 0
+Follows s k answers store (On p) = (k ≤ p .used) × Goes s answers store p
+Follows s k answers store (Ends e) = Stops s answers store e
+
+-- The same, and where it goes on there is a goal to take a step on, and a step left.
+abbrev pub Due : Started → ℕ → List ℕ → List ℕ → Next → Type 0
+Due s k answers store (On p) = (k ≤ p .used) × (0 < p .held) × (p .used < s .budget) × Goes s answers store p
+Due s k answers store (Ends e) = Stops s answers store e
 
 -- What level 0's run leaves and reports, started on the goals gs.
 pub record Topped (d : Deck) (answers store : List ℕ) (gs : List Goal) (budget : ℕ) (answers′ store′ : List ℕ) (r : Report) : Type 0 where

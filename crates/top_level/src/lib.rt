@@ -11,18 +11,41 @@ ghost use Rattle.rules.specs.Evaluation.{Level, withParked};
 ghost use Rattle.resolvents.specs.Deriving.{Rows};
 ghost use Rattle.clauses.specs.Clauses.{Indexed};
 ghost use Rattle.goals.specs.Store.{Holding, SomeHolding, markOf};
-ghost use Rattle.top_level.specs.Top.{Stored, SomeStored, Written, SomeWritten, Queries, SomeQuery, Ordered, Topped};
+ghost use Rattle.top_level.specs.Top.{Stored, SomeStored, Written, SomeWritten, Queries, SomeQuery, Ordered, Topped, Started, Bare, SomeBare, Stepped, SomeStepped, Follows, Due, Stops, SomeStops};
 use goals::Mark;
+use levels::Steps;
 use levels::Turn;
 use levels::take_step;
 use report::Report;
 use report::Stop;
 use resolvents::fresh::variables;
+use words::wide;
 
 // The numbers of pending and parked goals.
 pub struct Counts {
     pub pending: u32,
     pub parked: u32,
+}
+
+// Level 0 between two steps: how many words of the store its parked goals take, and how many its pending ones after them; the steps used;
+// how many words its answers take, and how many they are.
+pub struct Progress {
+    pub parked: usize,
+    pub held: usize,
+    pub used: u32,
+    pub filled: usize,
+    pub listed: u64,
+}
+
+// Level 0 where it stops.
+pub struct End {
+    pub stop: Stop,
+    pub at: Progress,
+}
+
+pub enum Next {
+    On(Progress),
+    Ends(End),
 }
 
 // What a mark adds to a goal's word 0.
@@ -51,7 +74,108 @@ fn park(store: &mut [u16], parked: usize, held: usize, mark: Mark) -> usize
     length
 }
 
-// Runs level 0 from the goals held until nothing is pending or it stops, and puts the goals that are left in order.
+// The first pending goal, which has no literals, goes to the answer list; or there is no room for it there.
+fn list(at: Progress, answers: &mut [u16], store: &[u16]) -> Next
+    requires { ⌜ SomeBare (now answers) (now store) at ⌝ }
+    requires { ⌜ (at .used < 4294967295) × (length (now store) ≤ 65535) ⌝ }
+    ensures { λ r. ⌜ ((s : Started) → Bare s (now (answers .entry)) (now (store .entry)) at → Follows s (at .used + 1) (now (answers .exit)) (now (store .entry)) r) ⌝ }
+{
+    let end = at.parked + at.held;
+    let n = wide(store[end - 1]);
+    if answers.len() - at.filled < n {
+        let stop = Stop::Answers;
+        return Next::Ends(End { stop, at });
+    }
+    words::copy_mirrored(store, end, n, answers, at.filled);
+    Next::On(Progress {
+        parked: at.parked,
+        held: at.held - n,
+        used: at.used + 1,
+        filled: at.filled + n,
+        listed: at.listed + 1,
+    })
+}
+
+// Level 0 after a step.
+fn follow(taken: Turn, at: Progress, answers: &mut [u16], store: &mut [u16]) -> Next
+    requires { ⌜ SomeStepped (now answers) (now store) at taken ⌝ }
+    requires { ⌜ (at .used < 4294967295) × (length (now store) ≤ 65535) ⌝ }
+    ensures { λ r. ⌜ ((s : Started) → Stepped s (now (answers .entry)) (now (store .entry)) at taken → Follows s (at .used + 1) (now (answers .exit)) (now (store .exit)) r) ⌝ }
+{
+    match taken {
+        Turn::Empty => list(at, answers, store),
+        Turn::Park(mark, used) => {
+            let n = park(store, at.parked, at.held, mark);
+            Next::On(Progress {
+                parked: at.parked + n,
+                held: at.held - n,
+                used,
+                filled: at.filled,
+                listed: at.listed,
+            })
+        }
+        Turn::More(held, used) => {
+            let before = at.parked;
+            Next::On(Progress {
+                parked: before,
+                held,
+                used,
+                filled: at.filled,
+                listed: at.listed,
+            })
+        }
+        Turn::Stopped(stop, used) => {
+            let last = Progress {
+                parked: at.parked,
+                held: at.held,
+                used,
+                filled: at.filled,
+                listed: at.listed,
+            };
+            Next::Ends(End { stop, at: last })
+        }
+    }
+}
+
+// Level 0 is finished where nothing is pending, and stops where the budget is spent.
+fn due(next: Next, budget: u32) -> Next
+    ensures { λ r. ⌜ ((s : Started) (k : ℕ) (answers store : List ℕ) → s .budget ≡ budget → Follows s k answers store next → Due s k answers store r) ⌝ }
+{
+    match next {
+        Next::On(at) => {
+            if at.held == 0 {
+                let stop = Stop::Finished;
+                return Next::Ends(End { stop, at });
+            }
+            if at.used == budget {
+                let stop = Stop::Budget;
+                return Next::Ends(End { stop, at });
+            }
+            Next::On(at)
+        }
+        Next::Ends(end) => Next::Ends(end),
+    }
+}
+
+// Puts the goals that are left in order, and reports.
+fn report(end: End, store: &mut [u16]) -> Report
+    requires { ⌜ SomeStops (now store) end ⌝ }
+    requires { ⌜ length (now store) ≤ 65535 ⌝ }
+    ensures { λ r. ⌜ ((s : Started) (answers : List ℕ) → Stops s answers (now (store .entry)) end → Topped (s .deck) (s .answers) (s .store) (s .goals) (s .budget) answers (now (store .exit)) r) ⌝ }
+{
+    let stop = end.stop;
+    let at = end.at;
+    let counts = order_goals(store, at.parked, at.held);
+    Report {
+        stop,
+        steps: at.used,
+        answers: at.listed,
+        pending: counts.pending,
+        parked: counts.parked,
+    }
+}
+
+// Runs level 0 from the goals held until it stops, and puts the goals that are left in order.
 pub fn top(
     deck: &[u16],
     start: usize,
@@ -59,83 +183,38 @@ pub fn top(
     answers: &mut [u16],
     store: &mut [u16],
     cells: &mut [u16],
-    bind: &mut [u16],
-    trail: &mut [u16],
-    marks: &mut [u16],
-    names: &mut [u16],
-    order: &mut [u16],
-    child: &mut [u16],
+    table: &mut [u16],
+    draft: &mut [u16],
     index: &[u16],
 ) -> Report
     requires { ⌜ SomeHolding (now deck) (now store) start ⌝ }
-    requires { ⌜ Rows (now bind) (now trail) (now marks) (now names) (now order) (now child) ⌝ }
+    requires { ⌜ Rows (now table) (now draft) ⌝ }
     requires { ⌜ (8192 ≤ length (now cells)) × (length (now store) ≤ 65535) × Indexed (now deck) (now index) ⌝ }
     ensures { λ r. ⌜ ((d : Deck) (gs : List Goal) → openDeck (now (deck .entry)) ≡ accepted d → Holding (d .symbols) (now (store .entry)) start gs → Topped d (now (answers .entry)) (now (store .entry)) gs budget (now (answers .exit)) (now (store .exit)) r) ⌝ }
 {
-    let mut held = start;
-    let mut parked: usize = 0;
-    let mut steps: u32 = 0;
-    let mut used: usize = 0;
-    let mut count: u64 = 0;
-    let mut stop = Stop::Finished;
-    while 0 < held {
-        if steps == budget {
-            stop = Stop::Budget;
-            break;
-        }
-        match take_step(
-            deck,
-            32,
-            &mut store[parked..],
-            held,
-            budget,
-            steps,
-            cells,
-            bind,
-            trail,
-            marks,
-            names,
-            order,
-            child,
-            index,
-        ) {
-            Turn::Empty => {
-                let end = parked + held;
-                let length = store[end - 1] as usize;
-                if answers.len() - used < length {
-                    stop = Stop::Answers;
-                    break;
-                }
-                words::copy_mirrored(store, end, length, answers, used);
-                used += length;
-                count += 1;
-                held -= length;
-                steps += 1;
+    let begin = Progress {
+        parked: 0,
+        held: start,
+        used: 0,
+        filled: 0,
+        listed: 0,
+    };
+    let mut next = due(Next::On(begin), budget);
+    loop {
+        match next {
+            Next::On(at) => {
+                let parked = at.parked;
+                let held = at.held;
+                let used = at.used;
+                let steps = Steps { budget, used };
+                let part = &mut store[parked..];
+                let taken = take_step(deck, 32, part, held, steps, cells, table, draft, index);
+                next = due(follow(taken, at, answers, store), budget);
             }
-            Turn::Park(mark, k) => {
-                let length = park(store, parked, held, mark);
-                parked += length;
-                held -= length;
-                steps = k;
-            }
-            Turn::More(h, k) => {
-                held = h;
-                steps = k;
-            }
-            Turn::Stopped(why, k) => {
-                stop = why;
-                steps = k;
-                break;
+            Next::Ends(end) => {
+                return report(end, store);
             }
         }
-    }
-    let counts = order_goals(store, parked, held);
-    Report {
-        stop,
-        steps,
-        answers: count,
-        pending: counts.pending,
-        parked: counts.parked,
     }
 }
 

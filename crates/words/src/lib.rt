@@ -1,9 +1,17 @@
-// Slices of words: copying, also as a mirror image, reversing a range, moving a range down. Nothing about logic.
+// Slices of words: reading, copying, also as a mirror image, reversing a range, moving a range down. Nothing about logic.
 ghost use mathlib.Core.Path.{_≡_};
-ghost use Prim.Native.Nat.{_+_, _-_, _≤_};
+ghost use Prim.Native.Nat.{_+_, _-_, _≤_, _<_};
 ghost use mathlib.Core.List.{reverse, _++_};
-ghost use lib.ListN.{length, take, drop};
+ghost use lib.ListN.{length, getD, take, drop};
 ghost use lib.Seq.{sets};
+
+// A word of a slice, as a number.
+pub fn word(words: &[u16], i: usize) -> usize
+    requires { ⌜ i < length (now words) ⌝ }
+    ensures { λ r. ⌜ (r ≡ getD (now (words .entry)) i 0) × (r < 65536) ⌝ }
+{
+    wide(words[i])
+}
 
 // A word as a number of words.
 pub fn wide(word: u16) -> usize

@@ -7,7 +7,8 @@ use Rattle.rules.specs.Refusals.{checkedNumber}
 use Rattle.rules.specs.Decks.{symbolWords, openDeck, checkQuery}
 use Rattle.deck.specs.Answers.{numberOf, found}
 use Rattle.deck.specs.Kinds.{symbolsOf}
-use Rattle.deck.proofs.OpenLaws.{passes, fails, literalsNumber, refused-query, accepted-header, accepted-query, refused-number}
+use Rattle.deck.proofs.RefusalLaws.{refused-number}
+use Rattle.deck.proofs.OpenLaws.{passes, fails, literalsNumber, refused-query, accepted-header, accepted-query}
 use Rattle.deck.proofs.check.Statement.{statement}
 use Rattle.deck.proofs.check.Tie as tie
 

@@ -17,12 +17,12 @@ use Rattle.rules.specs.Decks.{openDeck}
 use Rattle.rules.specs.Resolution.{resolvent, resolvents}
 use Rattle.rules.proofs.DeckLaws.{steps-open}
 use Rattle.resolvents.specs.Deriving.{Rows, IsResolvent}
-use Rattle.derivation.specs.Derives.{Tries, tried}
+use Rattle.derivation.specs.Derives.{Tries}
 use Rattle.clauses.specs.Clauses.{ClauseAt, NextAbout, Indexes}
 use Rattle.clauses.proofs.ClauseLaws.{clause-count, few-clauses, clause-of}
 use Rattle.clauses.proofs.IndexLaws.{few}
 use Rattle.derivation.proofs.LiteralLaws.{literal-cell, literal-below}
-use Rattle.derivation.proofs.ChildrenLaws.{resolvents-tried, tries-kept, After, same, more, after-length, after-few, child-short, Going, going-first, going-last, going-over, going-on, going-past}
+use Rattle.derivation.proofs.ChildrenLaws.{tried, tried-about, resolvents-tried, tries-kept, After, same, more, after-length, after-few, child-short, Going, going-first, going-last, going-over, going-on, going-past}
 use Rattle.derivation.proofs.put_children.Statement.{statement}
 use Rattle.derivation.proofs.put_children.Tie as tie
 use Rattle.derivation.proofs.put_children.Reads as reads
@@ -34,10 +34,10 @@ use Rattle.words.proofs.wide.Reads as wide-reads
 use Rattle.clauses.proofs.next_about.Reads as next-about-reads
 use Rattle.clauses.proofs.first_about.Reads as first-about-reads
 
-record Loop (deck store₀ cells₀ : List ℕ) (base size answers s e n count : ℕ) (store cells bind trail marks names order child : List ℕ) (end i : ℕ) : Type 0 where
+record Loop (deck store₀ cells₀ : List ℕ) (base size answers s e n count : ℕ) (store cells table draft : List ℕ) (end i : ℕ) : Type 0 where
   storeLength : length store ≡ length store₀
   cellsLength : length cells ≡ length cells₀
-  rows : Rows bind trail marks names order child
+  rows : Rows table draft
   goalCells : take size cells ≡ take size cells₀
   counted : end ≤ base + 1024 * i
   going : (d : Deck) (g : Goal) (before : List Literal) (p : ℕ) (ts : Terms) (after : List Literal) → Tries deck cells₀ size answers s e n d g before p ts after
@@ -46,59 +46,59 @@ record Loop (deck store₀ cells₀ : List ℕ) (base size answers s e n count :
       → (c : Clause) → ClauseAt (d .clauses) i c → c .predicate ≡ p
 
 abbrev Inv-loop : tie.InvT-loop
-Inv-loop deck store₀ base cells₀ size answers s e n bind₀ trail₀ marks₀ names₀ order₀ child₀ index count end₀ i₀ store cells bind trail marks names order child end i =
-    Loop deck store₀ cells₀ base size answers s e n count store cells bind trail marks names order child end i
+Inv-loop deck store₀ base cells₀ call n table₀ draft₀ index count s end₀ i₀ store cells table draft end i =
+    Loop deck store₀ cells₀ base (call .len) (call .answers) (call .s) (call .e) n count store cells table draft end i
 
 abbrev μ-loop : tie.MeasureT-loop
-μ-loop deck store₀ base cells₀ size answers s e n bind₀ trail₀ marks₀ names₀ order₀ child₀ index count end₀ i₀ store cells bind trail marks names order child end i =
-    count - i
+μ-loop deck store₀ base cells₀ call n table₀ draft₀ index count s end₀ i₀ store cells table draft end i = count - i
 
 -- The loop's head, seen from after the call; and the entry, seen from the loop's head.
 abbrev head : tie.After-try-clause Inv-loop μ-loop → tie.At-loop Inv-loop μ-loop
-head k = k .before .before .before .before .before .before .before .before .before
+head k = k .before .before .before .before .before
 
 abbrev entry : tie.At-loop Inv-loop μ-loop → tie.Start Inv-loop μ-loop
-entry h = h .before .before .before .before .before .before .before .before .before .before .before .before .before .before .before
+entry h = h .before .before .before .before .before .before .before .before .before .before .before
 
 abbrev Tried : tie.At-loop Inv-loop μ-loop → Deck → Goal → List Literal → ℕ → Terms → List Literal → Type 0
 Tried h d g before p ts after =
-    let a = entry h .args in Tries (now (a .deck)) (now (a .cells)) (a .size) (a .answers) (a .s) (a .e) (a .n) d g before p ts after
+    let a = entry h .args in Tries (now (a .deck)) (now (a .cells)) (a .call .len) (a .call .answers) (a .call .s) (a .call .e) (a .n) d g before p ts after
 
 -- Clause i, and what the call says of it.
-abbrev childOf : tie.After-try-clause Inv-loop μ-loop → List ℕ
-childOf k = k .try-clause .last .1 .1 .1 .1 .1 .1 .1 .1 .1 .1 .1 .1 .1 .0
+abbrev draftOf : tie.After-try-clause Inv-loop μ-loop → List ℕ
+draftOf k = k .try-clause .last .1 .1 .1 .1 .1 .1 .0
 
 result : (k : tie.After-try-clause Inv-loop μ-loop) (d : Deck) (g : Goal) (before : List Literal) (p : ℕ) (ts : Terms) (after : List Literal)
     → Tried (head k) d g before p ts after
     → (c : Clause) × (drop (head k .loop .i) (d .clauses) ≡ c ∷ drop (head k .loop .i + 1) (d .clauses))
-    × IsResolvent (tried (resolvent (entry (head k) .args .n) (g .answers) before ts after) p c) (childOf k) (k .try-clause .result)
+    × IsResolvent (tried (resolvent (entry (head k) .args .n) (g .answers) before ts after) p c) (draftOf k) (k .try-clause .result)
 result k d g before p ts after t =
     let h = head k in
-    let r = clause-of (now (entry h .args .deck)) d (h .loop .i) (t .opens) (omega (arith, k .before .before .before .before .before .before .before .before .loop-test .taken, h .before .before .before .before .clause-count .ensures)) in (
+    let r = clause-of (now (entry h .args .deck)) d (h .loop .i) (t .opens) (omega (arith, k .before .before .before .before .loop-test .taken, h .before .before .before .before .clause-count .ensures)) in (
       r .clause,
       r .place,
-      k .try-clause .ensures .0 d g before p ts after (r .clause) (tries-kept (h .loop .cells) (h .loop .inv .goalCells) (h .loop .inv .cellsLength) t) (r .place),
+      rw (tried-about (resolvent (entry h .args .n) (g .answers) before ts after) p (r .clause) (h .loop .inv .about d g before p ts after t (r .clause) (r .place)))
+          (k .try-clause .ensures .0 d g before p ts after (r .clause) (tries-kept (h .loop .cells) (h .loop .inv .goalCells) (h .loop .inv .cellsLength) t) (r .place)),
     )
 
 -- A goal of at most 1,024 words, and the place after it.
 short : (c : tie.After-w Inv-loop μ-loop) → c .w .given .0 .0 ≤ 1024
 short c =
-    let k = c .before .before .before .before .before .before .before .before .before .before .before .before .before .before .before .before in
+    let k = c .before .before .before .before .before .before .before .before in
     let t = entry (head k) .pre .0 in
     let r = result k (t .deck) (t .goal) (t .before) (t .predicate) (t .terms) (t .after) (t .is) in
     let o = tried (resolvent (entry (head k) .args .n) (t .goal .answers) (t .before) (t .terms) (t .after)) (t .predicate) (r .0) in
-    child-short o (childOf k) (c .w .given .0 .0) (subst (IsResolvent o (childOf k)) (c .w .given .1) (r .2))
+    child-short o (draftOf k) (c .w .given .0 .0) (subst (IsResolvent o (draftOf k)) (c .w .given .1) (r .2))
 
-end-fits : (c : tie.After-w Inv-loop μ-loop) → Fits w64 (head (c .before .before .before .before .before .before .before .before .before .before .before .before .before .before .before .before) .loop .end + c .w .given .0 .0)
+end-fits : (c : tie.After-w Inv-loop μ-loop) → Fits w64 (head (c .before .before .before .before .before .before .before .before) .loop .end + c .w .given .0 .0)
 end-fits c =
-    let k = c .before .before .before .before .before .before .before .before .before .before .before .before .before .before .before .before in
+    let k = c .before .before .before .before .before .before .before .before in
     let h = head k in
     let s = entry h in
     omega (
       arith,
       short c,
       h .loop .inv .counted,
-      k .before .before .before .before .before .before .before .before .loop-test .taken,
+      k .before .before .before .before .loop-test .taken,
       h .before .before .before .before .clause-count .ensures,
       s .pre .1 .1 .1,
       s .good .1 .0 .1,
@@ -107,11 +107,11 @@ end-fits c =
 
 -- What the match leaves.
 after : (c : tie.At-match-came Inv-loop μ-loop)
-    → let k = c .before .before .before .before .before .before .before .before .before .before .before .before .before .before .before in
-    After (head k .loop .store) (head k .loop .end) (childOf k) (c .match .store) (c .match .end) (k .try-clause .result)
+    → let k = c .before .before .before .before .before .before .before in
+    After (head k .loop .store) (head k .loop .end) (draftOf k) (c .match .store) (c .match .end) (k .try-clause .result)
 after c =
-    let k = c .before .before .before .before .before .before .before .before .before .before .before .before .before .before .before in
-    let A = After (head k .loop .store) (head k .loop .end) (childOf k) (c .match .store) (c .match .end) in
+    let k = c .before .before .before .before .before .before .before in
+    let A = After (head k .loop .store) (head k .loop .end) (draftOf k) (c .match .store) (c .match .end) in
     ⊎-elim (λ q. subst A (sym (q .1 .given .1)) (same (q .2) (q .3)))
     (λ q. subst A (sym (q .1 .given .1)) (more (q .1 .given .0 .0)
     (⊎-elim (λ u. inl (u .0 .taken, q .4 ∙ u .6 ∙ u .3 .ensures)) (λ u. inr (u .0 .left, q .4 ∙ u .1)) (q .3 .came)) (q .5))) (c .match .came)
@@ -121,7 +121,7 @@ indexes : (h : tie.At-loop Inv-loop μ-loop) (d : Deck) → openDeck (now (entry
 indexes h = entry h .pre .1 .1 .2
 
 abbrev called : tie.At-match-came Inv-loop μ-loop → tie.After-try-clause Inv-loop μ-loop
-called m = m .before .before .before .before .before .before .before .before .before .before .before .before .before .before .before
+called m = m .before .before .before .before .before .before .before
 
 onward : (m : tie.At-match-came Inv-loop μ-loop) (d : Deck) (g : Goal) (before : List Literal) (p : ℕ) (ts : Terms) (after : List Literal)
     → let h = head (called m) in
@@ -138,17 +138,17 @@ further m =
     let h = head (called m) in
     let t = entry h .pre .0 in
     let ws = now (entry h .args .deck) in (
-      omega (arith, called m .before .before .before .before .before .before .before .before .loop-test .taken, h .before .before .before .before .clause-count .ensures, clause-count ws (t .deck) (t .is .opens), few ws (t .deck) (t .is .opens)),
+      omega (arith, called m .before .before .before .before .loop-test .taken, h .before .before .before .before .clause-count .ensures, clause-count ws (t .deck) (t .is .opens), few ws (t .deck) (t .is .opens)),
       onward m (t .deck) (t .goal) (t .before) (t .predicate) (t .terms) (t .after) (t .is) .later,
     )
 
 -- The first clause about the predicate.
 abbrev start : tie.After-first-about Inv-loop μ-loop → tie.Start Inv-loop μ-loop
-start c = c .before .before .before .before .before .before .before .before .before .before .before .before .before .before
+start c = c .before .before .before .before .before .before .before .before .before .before
 
 first : (c : tie.After-first-about Inv-loop μ-loop) (d : Deck) (g : Goal) (before : List Literal) (p : ℕ) (ts : Terms) (after : List Literal)
     → let a = start c .args in
-    Tries (now (a .deck)) (now (a .cells)) (a .size) (a .answers) (a .s) (a .e) (a .n) d g before p ts after → NextAbout p (d .clauses) 0 (c .first-about .result)
+    Tries (now (a .deck)) (now (a .cells)) (a .call .len) (a .call .answers) (a .call .s) (a .call .e) (a .n) d g before p ts after → NextAbout p (d .clauses) 0 (c .first-about .result)
 first c d g before p ts after t =
     let ix = now (start c .args .index) in
     let e : c .first-about .result ≡ getD ix p 0 = c .first-about .ensures ∙ ap (λ (n : ℕ). getD ix n 0) (c .before .wide .ensures ∙ literal-cell (t .calls) .1) in
@@ -156,20 +156,20 @@ first c d g before p ts after t =
 
 clause-count-requires : tie.Need-clause-count-requires Inv-loop μ-loop
 clause-count-requires c κs =
-    let s = c .before .before .before .before .before .before .before .before .before .before in steps-open (now (s .args .deck)) (s .pre .0 .deck) (s .pre .0 .is .opens) .fits
+    let s = c .before .before .before .before .before .before in steps-open (now (s .args .deck)) (s .pre .0 .deck) (s .pre .0 .is .opens) .fits
 
 mul-wide : tie.Need-mul-wide Inv-loop μ-loop
-mul-wide c = let t = c .before .before .before .before .before .before .before .before .before .before .before .pre .0 .is .calls in omega (arith, literal-cell t .0, t .inside)
+mul-wide c = let t = c .before .before .before .before .before .before .before .pre .0 .is .calls in omega (arith, literal-cell t .0, t .inside)
 
 slice-read-wide : tie.Need-slice-read-wide Inv-loop μ-loop
-slice-read-wide c = let t = c .before .before .before .before .before .before .before .before .before .before .before .before .pre .0 .is .calls in omega (arith, literal-cell t .0, t .inside)
+slice-read-wide c = let t = c .before .before .before .before .before .before .before .before .pre .0 .is .calls in omega (arith, literal-cell t .0, t .inside)
 
 wide-requires : tie.Need-wide-requires Inv-loop μ-loop
 wide-requires c κs = tt
 
 first-about-requires : tie.Need-first-about-requires Inv-loop μ-loop
 first-about-requires c κs =
-    let s = c .before .before .before .before .before .before .before .before .before .before .before .before .before in
+    let s = c .before .before .before .before .before .before .before .before .before in
     let t = s .pre .0 .is in
     (omega (arith, c .wide .ensures, literal-cell (t .calls) .1, literal-below t), s .pre .1 .1 .2 (s .pre .0 .deck) (t .opens) .size)
 
@@ -192,7 +192,7 @@ loop-holds c =
 
 try-clause-requires : tie.Need-try-clause-requires Inv-loop μ-loop
 try-clause-requires c κs =
-    let h = c .before .before .before .before .before .before .before .before in
+    let h = c .before .before .before .before in
     let t = entry h .pre .0 in (
       record {
         deck = t .deck;
@@ -204,64 +204,40 @@ try-clause-requires c κs =
         is = tries-kept (h .loop .cells) (h .loop .inv .goalCells) (h .loop .inv .cellsLength) (t .is);
       },
       (
-        h .loop .inv .rows,
-        (omega (arith, h .loop .inv .cellsLength, entry h .pre .1 .1 .0), omega (arith, c .before .before .before .before .before .before .before .loop-test .taken, h .before .before .before .before .clause-count .ensures)),
+        λ d g before p ts after c′ t place. h .loop .inv .about d g before p ts after (tries-kept (now (entry h .args .cells)) (sym (h .loop .inv .goalCells)) (sym (h .loop .inv .cellsLength)) t) c′ place,
+        (
+          h .loop .inv .rows,
+          (omega (arith, h .loop .inv .cellsLength, entry h .pre .1 .1 .0), omega (arith, c .before .before .before .loop-test .taken, h .before .before .before .before .clause-count .ensures)),
+        ),
       ),
     )
-
-enum-told : tie.Need-enum-told Inv-loop μ-loop
-enum-told c = search needs
-
-enum-known-w : tie.Need-enum-known-w Inv-loop μ-loop
-enum-known-w c = search needs
 
 add-if1 : tie.Need-add-if1 Inv-loop μ-loop
 add-if1 c = end-fits (c .before)
 
 copy-requires : tie.Need-copy-requires Inv-loop μ-loop
 copy-requires c κs =
-    (omega (arith, short (c .before .before .before .before), c .before .before .before .before .before .before .before .before .before .before .before .before .before .before .before .before .before .before .before .before .try-clause .ensures .1 .0 .childLength), c .before .before .if1 .taken)
+    (omega (arith, short (c .before .before .before .before), c .before .before .before .before .before .before .before .before .before .before .before .before .try-clause .ensures .1 .0 .draftLength), c .before .before .if1 .taken)
 
 add-end : tie.Need-add-end Inv-loop μ-loop
 add-end c = end-fits (c .before .before)
 
-enum-told-2 : tie.Need-enum-told-2 Inv-loop μ-loop
-enum-told-2 c = search needs
-
-same-length : tie.Need-same-length Inv-loop μ-loop
-same-length c = search needs
-
-same-length-2 : tie.Need-same-length-2 Inv-loop μ-loop
-same-length-2 c = search needs
-
 same-length-3 : tie.Need-same-length-3 Inv-loop μ-loop
-same-length-3 c = omega (arith, entry (c .before .before .before .before .before .before .before .before .before .before .before .before .before .before .before .before .before .before .before .before .before .before .before .before .before) .pre .1 .0)
+same-length-3 c = omega (arith, entry (c .before .before .before .before .before .before .before .before .before .before .before .before .before) .pre .1 .0)
 
 same-length-4 : tie.Need-same-length-4 Inv-loop μ-loop
-same-length-4 c = omega (arith, entry (c .before .before .before .before .before .before .before .before .before .before .before .before .before .before .before .before .before .before .before .before .before .before .before .before .before) .pre .1 .0)
-
-same-length-5 : tie.Need-same-length-5 Inv-loop μ-loop
-same-length-5 c = omega (arith, entry (c .before .before .before .before .before .before .before .before .before .before .before .before .before .before .before .before .before .before .before .before .before .before .before .before .before) .pre .1 .0)
-
-same-length-6 : tie.Need-same-length-6 Inv-loop μ-loop
-same-length-6 c = omega (arith, entry (c .before .before .before .before .before .before .before .before .before .before .before .before .before .before .before .before .before .before .before .before .before .before .before .before .before) .pre .1 .0)
-
-same-length-7 : tie.Need-same-length-7 Inv-loop μ-loop
-same-length-7 c = omega (arith, entry (c .before .before .before .before .before .before .before .before .before .before .before .before .before .before .before .before .before .before .before .before .before .before .before .before .before) .pre .1 .0)
-
-same-length-8 : tie.Need-same-length-8 Inv-loop μ-loop
-same-length-8 c = omega (arith, entry (c .before .before .before .before .before .before .before .before .before .before .before .before .before .before .before .before .before .before .before .before .before .before .before .before .before) .pre .1 .0)
+same-length-4 c = omega (arith, entry (c .before .before .before .before .before .before .before .before .before .before .before .before .before) .pre .1 .0)
 
 returns : tie.Need-returns Inv-loop μ-loop
 returns c =
-    let k = c .before .before .before .before .before .before .before .before .before .before .before .before .before .before .before .before in
+    let k = c .before .before .before .before .before .before .before .before in
     let h = head k in
     let a = entry h .args in (
       λ d g before p ts after t.
           let r = result k d g before p ts after t in
           let by = tried (resolvent (a .n) (g .answers) before ts after) p in
           going-over by (d .clauses) (resolvents (d .clauses) g before p ts after) (now (a .store)) (a .base) (h .loop .store) (h .loop .end) (h .loop .i) (r .0) (r .1)
-          (h .loop .inv .going d g before p ts after t) (childOf k) (subst (IsResolvent (by (r .0)) (childOf k)) (c .enum-told2 .given .1) (r .2)),
+          (h .loop .inv .going d g before p ts after t) (draftOf k) (subst (IsResolvent (by (r .0)) (draftOf k)) (c .enum-told2 .given .1) (r .2)),
       (k .try-clause .ensures .1 .0, k .try-clause .ensures .1 .1 ∙ h .loop .inv .goalCells),
     )
 
@@ -271,7 +247,7 @@ next-about-requires c κs =
 
 loop-less : tie.Need-loop-less Inv-loop μ-loop
 loop-less c =
-    omega (arith, further (c .before) .1, c .next-about .ensures, called (c .before) .before .before .before .before .before .before .before .before .loop-test .taken)
+    omega (arith, further (c .before) .1, c .next-about .ensures, called (c .before) .before .before .before .before .loop-test .taken)
 
 loop-again : tie.Need-loop-again Inv-loop μ-loop
 loop-again c =
@@ -292,34 +268,10 @@ loop-again c =
           let b = resolvent (a .n) (g .answers) before ts after′ in
           going-past b p (d .clauses) (subst (NextAbout p (d .clauses) (h .loop .i + 1)) (sym (c .next-about .ensures)) (onward m d g before p ts after′ t))
           (going-on (tried b p) (d .clauses) (resolvents (d .clauses) g before p ts after′) (now (a .store)) (a .base)
-          (h .loop .store) (h .loop .end) (h .loop .i) (r .0) (r .1) (h .loop .inv .going d g before p ts after′ t) (childOf k) (k .try-clause .result) (r .2)
+          (h .loop .store) (h .loop .end) (h .loop .i) (r .0) (r .1) (h .loop .inv .going d g before p ts after′ t) (draftOf k) (k .try-clause .result) (r .2)
           (h .loop .inv .storeLength) (m .match .store) (m .match .end) (after m));
       about = λ d g before p ts after′ t. subst (NextAbout p (d .clauses) (h .loop .i + 1)) (sym (c .next-about .ensures)) (onward m d g before p ts after′ t) .about;
     }
-
-same-length-9 : tie.Need-same-length-9 Inv-loop μ-loop
-same-length-9 c = search needs
-
-same-length-10 : tie.Need-same-length-10 Inv-loop μ-loop
-same-length-10 c = search needs
-
-same-length-11 : tie.Need-same-length-11 Inv-loop μ-loop
-same-length-11 c = search needs
-
-same-length-12 : tie.Need-same-length-12 Inv-loop μ-loop
-same-length-12 c = search needs
-
-same-length-13 : tie.Need-same-length-13 Inv-loop μ-loop
-same-length-13 c = search needs
-
-same-length-14 : tie.Need-same-length-14 Inv-loop μ-loop
-same-length-14 c = search needs
-
-same-length-15 : tie.Need-same-length-15 Inv-loop μ-loop
-same-length-15 c = search needs
-
-same-length-16 : tie.Need-same-length-16 Inv-loop μ-loop
-same-length-16 c = search needs
 
 returns-2 : tie.Need-returns-2 Inv-loop μ-loop
 returns-2 c =
@@ -334,42 +286,8 @@ returns-2 c =
     )
 
 pub put-children-spec : {M : Type 1} → statement M
-put-children-spec =
-    tie.close
-    (tie.spec
-    Inv-loop
-    μ-loop
-    clause-count-requires
-    mul-wide
-    slice-read-wide
-    wide-requires
-    first-about-requires
-    loop-holds
-    try-clause-requires
-    enum-told
-    enum-known-w
-    add-if1
-    copy-requires
-    add-end
-    enum-told-2
-    same-length
-    same-length-2
-    same-length-3
-    same-length-4
-    same-length-5
-    same-length-6
-    same-length-7
-    same-length-8
-    returns
-    next-about-requires
-    loop-less
-    loop-again
-    same-length-9
-    same-length-10
-    same-length-11
-    same-length-12
-    same-length-13
-    same-length-14
-    same-length-15
-    same-length-16
-    returns-2)
+put-children-spec = tie.close (tie.spec
+    Inv-loop μ-loop clause-count-requires mul-wide slice-read-wide wide-requires first-about-requires loop-holds try-clause-requires
+    (λ c. search needs) (λ c. search needs) add-if1 copy-requires add-end (λ c. search needs) (λ c. search needs) (λ c. search needs)
+    same-length-3 same-length-4 returns next-about-requires loop-less loop-again (λ c. search needs) (λ c. search needs)
+    (λ c. search needs) (λ c. search needs) returns-2)

@@ -1,6 +1,6 @@
 -- `listed`: the run's contract, on the program's buffers, gives what is printed.
 use borrow.Author.Needs.{needs}
-use mathlib.Core.Path.{_≡_, refl, sym, _∙_, subst}
+use mathlib.Core.Path.{_≡_, refl, sym, subst}
 use mathlib.Core.List.{List}
 use Prim.Native.Nat.{ℕ}
 use Rattle.rules.specs.Refusals.{refused, accepted}
@@ -9,8 +9,7 @@ use Rattle.rules.specs.Evaluation.{Outcome}
 use Rattle.report.specs.Reports.{reportOf}
 use Rattle.listing.specs.Shown.{Shown}
 use Rattle.listing.proofs.RunLaws.{run-shown}
-use Rattle.evaluation.specs.Results.{refusalFor}
-use Rattle.evaluation.proofs.RunLaws.{number-for}
+use Rattle.deck.specs.Answers.{refusalFor}
 use Rattle.program.specs.Printed.{wordsRun}
 use Rattle.program.proofs.TextLaws.{refusal-printed, outcome-printed}
 use Rattle.program.proofs.PartLaws.{run-refused, run-done, header-fits}
@@ -86,7 +85,7 @@ returns c =
     let a = c .before .before .before .before .before .before .before .before .before .before .before .before .before .before .before .args in
     let why = c .before .before .before .before .why .given .0 .0 in
     refusal-printed (wordsRun (a .deck .now) (a .query .now)) (refusalFor why) (turned (c .before .before .before .before))
-    (c .put-refusal .ensures (refusalFor why) (sym (c .before .number .ensures ∙ number-for why))) (search needs)
+    (c .put-refusal .ensures (refusalFor why) (sym (c .before .number .ensures))) (search needs)
 
 returns-2 : tie.Need-returns-2
 returns-2 c =

@@ -26,7 +26,7 @@ turn :
 turn c =
     let p = c .before .before .before .before .before .before in
     let l = c .before .before .before .loop in
-    l .inv .1 ∙ short-from (p .args .cells .now) (p .args .starts .now) (l .i) (p .pre) (omega arith) ∙ rw (← c .before .end .ensures, ← c .word .ensures)
+    l .inv .1 ∙ short-from (p .args .cells .now) (p .args .starts .now) (l .i) (p .pre) (omega arith) ∙ rw (← c .before .end .ensures, ← c .word .ensures .0)
 
 loop-holds : tie.Need-loop-holds Inv-loop μ-loop
 loop-holds c = search needs

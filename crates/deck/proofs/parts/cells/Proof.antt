@@ -30,7 +30,7 @@ unfolding termCells
 returns c =
     let ws = c .before .before .before .args .deck .now in
     let from = c .before .word .result in
-    take-all (length ws - from) (drop from ws) (simp length-drop (omega arith)) ∙ ap (λ n. drop n ws) (c .before .word .ensures)
+    take-all (length ws - from) (drop from ws) (simp length-drop (omega arith)) ∙ ap (λ n. drop n ws) (c .before .word .ensures .0)
 
 pub cells-spec : {M : Type 1} → statement M
 cells-spec =

@@ -12,7 +12,7 @@ word-requires : tie.Need-word-requires
 word-requires c κs = rw (c .starts .ensures) (c .before .before .pre .1)
 
 returns : tie.Need-returns
-returns c = c .word .ensures ∙ ap (λ l. getD l (c .before .before .before .args .i) 0) (c .before .starts .ensures)
+returns c = c .word .ensures .0 ∙ ap (λ l. getD l (c .before .before .before .args .i) 0) (c .before .starts .ensures)
 
 pub clause-start-spec : {M : Type 1} → statement M
 clause-start-spec = tie.close (tie.spec starts-requires word-requires returns)

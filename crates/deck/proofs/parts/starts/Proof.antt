@@ -31,7 +31,7 @@ unfolding clauseWords
 returns c =
     let ws = c .before .before .before .before .args .deck .now in
     let n : c .before .word2 .result - c .before .before .word .result ≡ getD ws 3 0 = omega (arith, fit-facts ws (c .before .before .before .before .pre)) in
-    ap₂ (λ k m. take k (drop m ws)) n (c .before .before .word .ensures)
+    ap₂ (λ k m. take k (drop m ws)) n (c .before .before .word .ensures .0)
 
 pub starts-spec : {M : Type 1} → statement M
 starts-spec =

@@ -18,7 +18,7 @@ word-requires : tie.Need-word-requires
 word-requires c κs = search needs
 
 returns : tie.Need-returns
-returns c = let a = c .before .before .before .before .args in c .word .ensures ∙ getD-any (a .starts .now) (a .i + 1) _ _ (c .before .if1 .taken)
+returns c = let a = c .before .before .before .before .args in c .word .ensures .0 ∙ getD-any (a .starts .now) (a .i + 1) _ _ (c .before .if1 .taken)
 
 returns-2 : tie.Need-returns-2
 returns-2 c = let a = c .before .before .before .args in sym (List·getD-eq-default (a .starts .now) _ {n = a .i + 1} (omega arith))

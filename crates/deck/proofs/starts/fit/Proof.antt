@@ -15,11 +15,11 @@ word-requires : tie.Need-word-requires
 word-requires c κs = search needs
 
 returns-2 : tie.Need-returns-2
-returns-2 c = sym (starts-some _ _ (c .before .before .if1 .left) ∙ rw (← c .before .word .ensures, ne-eqb _ 0 (c .if2 .taken)))
+returns-2 c = sym (starts-some _ _ (c .before .before .if1 .left) ∙ rw (← c .before .word .ensures .0, ne-eqb _ 0 (c .if2 .taken)))
 
 returns-3 : tie.Need-returns-3
 returns-3 c =
-    sym (starts-some _ _ (c .before .before .before .if1 .left) ∙ rw (← c .before .before .word .ensures, eq-eqb _ 0 (c .before .if2 .left), le-ltb (c .before .before .word .result) (c .before .before .before .before .before .args .total) (omega arith)))
+    sym (starts-some _ _ (c .before .before .before .if1 .left) ∙ rw (← c .before .before .word .ensures .0, eq-eqb _ 0 (c .before .if2 .left), le-ltb (c .before .before .word .result) (c .before .before .before .before .before .args .total) (omega arith)))
 
 rise-requires : tie.Need-rise-requires
 rise-requires c κs = search needs

@@ -28,13 +28,13 @@ turn :
 turn c =
     let a = c .before .before .before .before .before .args in
     let l = c .before .before .loop in
-    l .inv .1 ∙ rising-from (a .total) (l .before) (a .starts .now) (l .i) (omega arith) ∙ rw (← c .word2 .ensures)
+    l .inv .1 ∙ rising-from (a .total) (l .before) (a .starts .now) (l .i) (omega arith) ∙ rw (← c .word2 .ensures .0)
 
 word-requires : tie.Need-word-requires Inv-loop μ-loop
 word-requires c κs = search needs
 
 loop-holds : tie.Need-loop-holds Inv-loop μ-loop
-loop-holds c = let a = c .before .before .args in (omega arith, ap (λ b. rising (a .total) b (drop 1 (a .starts .now))) (sym (c .word .ensures)))
+loop-holds c = let a = c .before .before .args in (omega arith, ap (λ b. rising (a .total) b (drop 1 (a .starts .now))) (sym (c .word .ensures .0)))
 
 word-requires-2 : tie.Need-word-requires-2 Inv-loop μ-loop
 word-requires-2 c κs = search needs

@@ -32,7 +32,7 @@ part-result-end : tie.Need-part-result-end
 part-result-end c = omega (arith, row-within c)
 
 returns : tie.Need-returns
-returns c = rw (c .before .end .ensures, c .before .before .word .ensures)
+returns c = rw (c .before .end .ensures, c .before .before .word .ensures .0)
 
 pub row-spec : {M : Type 1} → statement M
 row-spec =

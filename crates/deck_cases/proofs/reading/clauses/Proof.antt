@@ -20,23 +20,20 @@ enum-told c = search needs
 each-clause-requires : tie.Need-each-clause-requires
 each-clause-requires c κs = (accepted-header _ (accepted c), accepted-starts _ (accepted c))
 
-slice-aggregate-line : tie.Need-slice-aggregate-line
-slice-aggregate-line c = search needs
+symbols-requires : tie.Need-symbols-requires
+symbols-requires c κs = accepted-header _ (accepted (c .before))
 
-arity-requires : tie.Need-arity-requires
-arity-requires c κs = accepted-header _ (accepted (c .before .before))
-
-line-requires : tie.Need-line-requires
-line-requires c κs = search needs
+kind-requires : tie.Need-kind-requires
+kind-requires c κs = search needs
 
 enum-told-2 : tie.Need-enum-told-2
 enum-told-2 c = search needs
 
-slice-aggregate-line-2 : tie.Need-slice-aggregate-line-2
-slice-aggregate-line-2 c = search needs
+slice-aggregate-line : tie.Need-slice-aggregate-line
+slice-aggregate-line c = search needs
 
-line-requires-2 : tie.Need-line-requires-2
-line-requires-2 c κs = search needs
+line-requires : tie.Need-line-requires
+line-requires c κs = search needs
 
 returns : tie.Need-returns
 returns c = search needs
@@ -51,11 +48,10 @@ clauses-spec =
     open-requires
     enum-told
     each-clause-requires
-    slice-aggregate-line
-    arity-requires
-    line-requires
+    symbols-requires
+    kind-requires
     enum-told-2
-    slice-aggregate-line-2
-    line-requires-2
+    slice-aggregate-line
+    line-requires
     returns
     returns-2)

@@ -33,42 +33,42 @@ use Rattle.words.proofs.wide.Reads as wide-reads
 use Rattle.resolvents.proofs.select.select_literal.Reads as select-literal-reads
 use Rattle.words.proofs.copy_mirrored.Reads as copy-mirrored-reads
 
-abbrev pub μ-decide : Measures 10 decide-kinds.ps ℕ
+abbrev pub μ-decide : Measures 6 decide-kinds.ps ℕ
 μ-decide κs a = 4 * a .1 .0
 
-abbrev pub μ-level : Measures 10 level-kinds.ps ℕ
+abbrev pub μ-level : Measures 6 level-kinds.ps ℕ
 μ-level κs a = 4 * a .1 .0 + 3
 
-abbrev pub μ-negate : Measures 10 negate-kinds.ps ℕ
+abbrev pub μ-negate : Measures 6 negate-kinds.ps ℕ
 μ-negate κs a = 4 * a .1 .0 + 1
 
-abbrev pub μ-take-step : Measures 10 take-step-kinds.ps ℕ
+abbrev pub μ-take-step : Measures 6 take-step-kinds.ps ℕ
 μ-take-step κs a = 4 * a .1 .0 + 2
 
-abbrev pub decide-at : ℕ → In 10 decide-kinds.ps
-decide-at t = and 10 decide-kinds.ps (is 10 decide-kinds.ps μ-decide t) decide.Pre
+abbrev pub decide-at : ℕ → In 6 decide-kinds.ps
+decide-at t = and 6 decide-kinds.ps (is 6 decide-kinds.ps μ-decide t) decide.Pre
 
-abbrev pub decide-below : ℕ → In 10 decide-kinds.ps
-decide-below t = and 10 decide-kinds.ps (falls 10 decide-kinds.ps _<_ μ-decide t) decide.Pre
+abbrev pub decide-below : ℕ → In 6 decide-kinds.ps
+decide-below t = and 6 decide-kinds.ps (falls 6 decide-kinds.ps _<_ μ-decide t) decide.Pre
 
-abbrev pub level-at : ℕ → In 10 level-kinds.ps
-level-at t = and 10 level-kinds.ps (is 10 level-kinds.ps μ-level t) level.Pre
+abbrev pub level-at : ℕ → In 6 level-kinds.ps
+level-at t = and 6 level-kinds.ps (is 6 level-kinds.ps μ-level t) level.Pre
 
-abbrev pub level-below : ℕ → In 10 level-kinds.ps
-level-below t = and 10 level-kinds.ps (falls 10 level-kinds.ps _<_ μ-level t) level.Pre
+abbrev pub level-below : ℕ → In 6 level-kinds.ps
+level-below t = and 6 level-kinds.ps (falls 6 level-kinds.ps _<_ μ-level t) level.Pre
 
-abbrev pub negate-at : ℕ → In 10 negate-kinds.ps
-negate-at t = and 10 negate-kinds.ps (is 10 negate-kinds.ps μ-negate t) negate.Pre
+abbrev pub negate-at : ℕ → In 6 negate-kinds.ps
+negate-at t = and 6 negate-kinds.ps (is 6 negate-kinds.ps μ-negate t) negate.Pre
 
-abbrev pub negate-below : ℕ → In 10 negate-kinds.ps
-negate-below t = and 10 negate-kinds.ps (falls 10 negate-kinds.ps _<_ μ-negate t) negate.Pre
+abbrev pub negate-below : ℕ → In 6 negate-kinds.ps
+negate-below t = and 6 negate-kinds.ps (falls 6 negate-kinds.ps _<_ μ-negate t) negate.Pre
 
-abbrev pub take-step-at : ℕ → In 10 take-step-kinds.ps
-take-step-at t = and 10 take-step-kinds.ps (is 10 take-step-kinds.ps μ-take-step t) take-step.Pre
+abbrev pub take-step-at : ℕ → In 6 take-step-kinds.ps
+take-step-at t = and 6 take-step-kinds.ps (is 6 take-step-kinds.ps μ-take-step t) take-step.Pre
 
-abbrev pub take-step-below : ℕ → In 10 take-step-kinds.ps
+abbrev pub take-step-below : ℕ → In 6 take-step-kinds.ps
 take-step-below t =
-    and 10 take-step-kinds.ps (falls 10 take-step-kinds.ps _<_ μ-take-step t) take-step.Pre
+    and 6 take-step-kinds.ps (falls 6 take-step-kinds.ps _<_ μ-take-step t) take-step.Pre
 
 abbrev pub decide-E : ℕ → decide-lts.Claims
 decide-E t = (ask-reads.Asked, ask-reads.Learnt, level-below t, level.Post)
@@ -98,15 +98,11 @@ take-step-E t = (
 )
 
 abbrev pub level-Inv-loop : level-lts.InvT-loop
-level-Inv-loop deck below store₀ start budget used cells₀ bind₀ trail₀ marks₀ names₀ order₀ child₀ index held₀ steps₀ parked₀ store cells bind trail marks names order child held steps parked =
-    (
-    (length store ≡ length store₀) × (length cells ≡ length cells₀) × (length bind ≡ length bind₀) × (length trail ≡ length trail₀)
-    × (length marks ≡ length marks₀) × (length names ≡ length names₀) × (length order ≡ length order₀) × (length child ≡ length child₀)
-    )
-    × Rows bind trail marks names order child × (steps ≤ budget)
+level-Inv-loop deck below store₀ start steps cells₀ table₀ draft₀ index held₀ used₀ parked₀ store cells table draft held used parked =
+    ((length store ≡ length store₀) × (length cells ≡ length cells₀) × (length table ≡ length table₀) × (length draft ≡ length draft₀))
+    × Rows table draft × (used ≤ steps .budget)
     × ((d : Deck) (gs : List Goal) → openDeck deck ≡ accepted d → Holding (d .symbols) store₀ start gs
-    → Goes d below (length store₀) gs budget used store held steps parked)
+    → Goes d below (length store₀) gs (steps .budget) (steps .used) store held used parked)
 
 abbrev pub level-μ-loop : level-lts.MeasureT-loop
-level-μ-loop deck below store₀ start budget used cells₀ bind₀ trail₀ marks₀ names₀ order₀ child₀ index held₀ steps₀ parked₀ store cells bind trail marks names order child held steps parked =
-    budget - steps
+level-μ-loop deck below store₀ start steps cells₀ table₀ draft₀ index held₀ used₀ parked₀ store cells table draft held used parked = steps .budget - used

@@ -18,38 +18,23 @@ use Rattle.levels.proofs.+decide+level+negate+take_step.Proof.Base.{dec
 module _ (t : ℕ) where
   pub decide-ask-requires : decide-lts.Need-ask-requires (decide-E t) (decide-at t) decide.Post
   decide-ask-requires c κs =
-      let start = c .before .before .before .before .before .before .before .before .before .before .before .before in
+      let start = c .before .before .before .before .before .before .before .before in
       let k = asked-inside (start .pre .1 .0 .asking) in (start .pre .1 .1 .1 .3, k .0, k .1, k .2, k .3)
-
-  pub decide-sub-level : decide-lts.Need-sub-level (decide-E t) (decide-at t) decide.Post
-  decide-sub-level c = search needs
-
-  pub decide-mul-level : decide-lts.Need-mul-level (decide-E t) (decide-at t) decide.Post
-  decide-mul-level c = search needs
-
-  pub decide-sub-level-2 : decide-lts.Need-sub-level-2 (decide-E t) (decide-at t) decide.Post
-  decide-sub-level-2 c = search needs
-
-  pub decide-part-level-start : decide-lts.Need-part-level-start (decide-E t) (decide-at t) decide.Post
-  decide-part-level-start c = search needs
-
-  pub decide-part-level-end : decide-lts.Need-part-level-end (decide-E t) (decide-at t) decide.Post
-  decide-part-level-end c = search needs
 
   -- The goal is held in the part that the new level gets.
   in-part :
       (c : decide-lts.After-ask (decide-E t) (decide-at t) decide.Post) →
-      let a = c .before .before .before .before .before .before .before .before .before .before .before .before .before .args in
-      (S : List Symbol) (p : ℕ) (ts : Terms) → Asking (a .cells .now) (a .s) (a .e) S p ts
+      let a = c .before .before .before .before .before .before .before .before .before .args in
+      (S : List Symbol) (p : ℕ) (ts : Terms) → Asking (a .cells .now) (a .call .s) (a .call .e) S p ts
       → Holding S (midOf (a .held) (length (c .ask .last .0) - a .held) (c .ask .last .0)) (c .ask .result) (atomGoal p ts ∷ [])
   in-part c S p ts k =
-      let z = c .before .before .before .before .before .before .before .before .before .before .before .before .before in
+      let z = c .before .before .before .before .before .before .before .before .before in
       rw (c .ask .ensures .0) (asked-held k (z .args .store .now) (c .ask .last .0) (z .args .held) (z .pre .1 .1 .1 .3) (c .ask .ensures .1))
 
   pub decide-level-requires : decide-lts.Need-level-requires (decide-E t) (decide-at t) decide.Post
   decide-level-requires c κs =
-      let at-ask = c .before .before .before .before .before .before .before .before .before .before in
-      let start = at-ask .before .before .before .before .before .before .before .before .before .before .before .before .before in
+      let at-ask = c .before .before .before .before .before .before in
+      let start = at-ask .before .before .before .before .before .before .before .before .before in
       let q = start .pre .1 .0 in (
         omega (arith, start .pre .0, start .pre .1 .1 .1),
         (
@@ -58,35 +43,11 @@ module _ (t : ℕ) where
         ),
       )
 
-  pub decide-same-length : decide-lts.Need-same-length (decide-E t) (decide-at t) decide.Post
-  decide-same-length c = search needs
-
-  pub decide-same-length-2 : decide-lts.Need-same-length-2 (decide-E t) (decide-at t) decide.Post
-  decide-same-length-2 c = search needs
-
-  pub decide-same-length-3 : decide-lts.Need-same-length-3 (decide-E t) (decide-at t) decide.Post
-  decide-same-length-3 c = search needs
-
-  pub decide-same-length-4 : decide-lts.Need-same-length-4 (decide-E t) (decide-at t) decide.Post
-  decide-same-length-4 c = search needs
-
-  pub decide-same-length-5 : decide-lts.Need-same-length-5 (decide-E t) (decide-at t) decide.Post
-  decide-same-length-5 c = search needs
-
-  pub decide-same-length-6 : decide-lts.Need-same-length-6 (decide-E t) (decide-at t) decide.Post
-  decide-same-length-6 c = search needs
-
-  pub decide-same-length-7 : decide-lts.Need-same-length-7 (decide-E t) (decide-at t) decide.Post
-  decide-same-length-7 c = search needs
-
-  pub decide-same-length-8 : decide-lts.Need-same-length-8 (decide-E t) (decide-at t) decide.Post
-  decide-same-length-8 c = search needs
-
   pub decide-returns : decide-lts.Need-returns (decide-E t) (decide-at t) decide.Post
   decide-returns c =
-      let at-level = c .before .before .before .before .before .before .before .before .before .before .before .before .before .before .before .before in
-      let at-ask = at-level .before .before .before .before .before .before .before .before .before .before .before in
-      let start = at-ask .before .before .before .before .before .before .before .before .before .before .before .before .before in
+      let at-level = c .before .before .before .before .before .before .before .before in
+      let at-ask = at-level .before .before .before .before .before .before .before in
+      let start = at-ask .before .before .before .before .before .before .before .before .before in
       let a = start .args in
       let q = start .pre .1 .0 in
       let s = at-ask .ask in

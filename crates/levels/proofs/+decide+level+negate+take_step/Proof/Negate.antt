@@ -14,47 +14,35 @@ use native.Mathlib.Omega.{arith}
 use Rattle.levels.proofs.+decide+level+negate+take_step.Proof.Base.{negate-at, negate-E}
 
 module _ (t : ℕ) where
-  pub negate-add-t20 : negate-lts.Need-add-t20 (negate-E t) (negate-at t) negate.Post
-  negate-add-t20 c = search needs
-
   pub negate-returns : negate-lts.Need-returns (negate-E t) (negate-at t) negate.Post
   negate-returns c =
-      let start = c .before .before .before .before .before .before .before .before .before .before .before in
+      let start = c .before .before .before .before .before .before .before in
       let a = start .args in (
-        λ d g gs before p ts after n. turned-deep d (a .below) (a .budget) (a .steps) (start .pre .1 .1 .1 .1) (n .negates .holding) (c .if1 .taken) (n .negates .selects),
+        λ d g gs before p ts after n. turned-deep d (a .below) (a .steps .budget) (a .steps .used) (start .pre .1 .1 .1 .1) (n .negates .holding) (c .if1 .taken) (n .negates .selects),
         start .pre .1 .1 .0,
       )
 
-  pub negate-sub-if2 : negate-lts.Need-sub-if2 (negate-E t) (negate-at t) negate.Post
-  negate-sub-if2 c = search needs
-
-  pub negate-sub-if2-2 : negate-lts.Need-sub-if2-2 (negate-E t) (negate-at t) negate.Post
-  negate-sub-if2-2 c = search needs
-
   pub negate-add-if2 : negate-lts.Need-add-if2 (negate-E t) (negate-at t) negate.Post
   negate-add-if2 c =
-      let start = c .before .before .before .before .before .before .before .before .before .before .before in
+      let start = c .before .before .before .before .before .before .before in
       omega (arith, negates-inside (start .pre .1 .0 .is .negates), start .fits .held)
 
   pub negate-returns-2 : negate-lts.Need-returns-2 (negate-E t) (negate-at t) negate.Post
   negate-returns-2 c =
       let at-if1 = c .before in
-      let start = at-if1 .before .before .before .before .before .before .before .before .before .before .before in
+      let start = at-if1 .before .before .before .before .before .before .before in
       let a = start .args in (
         λ d g gs before p ts after n.
-            turned-crowded d (a .below) (a .budget) (a .steps) (start .pre .1 .1 .1 .1) (n .negates .holding) (a .below - 1) (omega (arith, at-if1 .if1 .left)) (n .negates .selects)
+            turned-crowded d (a .below) (a .steps .budget) (a .steps .used) (start .pre .1 .1 .1 .1) (n .negates .holding) (a .below - 1) (omega (arith, at-if1 .if1 .left)) (n .negates .selects)
             (omega (arith, atom-room n, c .if2 .taken, negates-inside (n .negates))),
         start .pre .1 .1 .0,
       )
 
-  pub negate-add-decide : negate-lts.Need-add-decide (negate-E t) (negate-at t) negate.Post
-  negate-add-decide c = search needs
-
   pub negate-decide-requires : negate-lts.Need-decide-requires (negate-E t) (negate-at t) negate.Post
   negate-decide-requires c κs =
-      let at-if2 = c .before .before .before .before .before .before .before .before in
+      let at-if2 = c .before .before .before .before in
       let at-if1 = at-if2 .before in
-      let start = at-if1 .before .before .before .before .before .before .before .before .before .before .before in
+      let start = at-if1 .before .before .before .before .before .before .before in
       let q = start .pre .1 .0 in (
         omega (arith, start .pre .0),
         (
@@ -68,8 +56,8 @@ module _ (t : ℕ) where
 
   pub negate-settle-requires : negate-lts.Need-settle-requires (negate-E t) (negate-at t) negate.Post
   negate-settle-requires c κs =
-      let at-decide = c .before .before .before .before .before .before .before .before .before .before .before .before .before .before .before .before .before in
-      let start = at-decide .before .before .before .before .before .before .before .before .before .before .before .before .before .before .before .before .before .before .before .before .before in
+      let at-decide = c .before .before .before .before .before .before .before .before .before in
+      let start = at-decide .before .before .before .before .before .before .before .before .before .before .before .before .before in
       let q = start .pre .1 .0 in
       let r = at-decide .decide in
       record {
@@ -83,37 +71,13 @@ module _ (t : ℕ) where
         negates = still-negates (q .is) (r .last .1 .1 .0) (r .kept .1 .1 .0) (r .ensures .1 .1);
       }
 
-  pub negate-same-length : negate-lts.Need-same-length (negate-E t) (negate-at t) negate.Post
-  negate-same-length c = search needs
-
-  pub negate-same-length-2 : negate-lts.Need-same-length-2 (negate-E t) (negate-at t) negate.Post
-  negate-same-length-2 c = search needs
-
-  pub negate-same-length-3 : negate-lts.Need-same-length-3 (negate-E t) (negate-at t) negate.Post
-  negate-same-length-3 c = search needs
-
-  pub negate-same-length-4 : negate-lts.Need-same-length-4 (negate-E t) (negate-at t) negate.Post
-  negate-same-length-4 c = search needs
-
-  pub negate-same-length-5 : negate-lts.Need-same-length-5 (negate-E t) (negate-at t) negate.Post
-  negate-same-length-5 c = search needs
-
-  pub negate-same-length-6 : negate-lts.Need-same-length-6 (negate-E t) (negate-at t) negate.Post
-  negate-same-length-6 c = search needs
-
-  pub negate-same-length-7 : negate-lts.Need-same-length-7 (negate-E t) (negate-at t) negate.Post
-  negate-same-length-7 c = search needs
-
-  pub negate-same-length-8 : negate-lts.Need-same-length-8 (negate-E t) (negate-at t) negate.Post
-  negate-same-length-8 c = search needs
-
   pub negate-returns-3 : negate-lts.Need-returns-3 (negate-E t) (negate-at t) negate.Post
   negate-returns-3 c =
       let at-settle = c .before .before in
-      let at-decide = at-settle .before .before .before .before .before .before .before .before .before .before .before .before .before .before .before .before .before .before in
-      let at-if2 = at-decide .before .before .before .before .before .before .before .before .before in
+      let at-decide = at-settle .before .before .before .before .before .before .before .before .before .before in
+      let at-if2 = at-decide .before .before .before .before .before in
       let at-if1 = at-if2 .before in
-      let start = at-if1 .before .before .before .before .before .before .before .before .before .before .before in
+      let start = at-if1 .before .before .before .before .before .before .before in
       let a = start .args in
       let r = at-decide .decide in
       let store = r .last .1 .1 .0 in
@@ -122,13 +86,13 @@ module _ (t : ℕ) where
       let below : suc (a .below - 1) ≡ a .below = omega (arith, at-if1 .if1 .left) in (
         λ d g gs before p ts after n.
             let k : goalWords g ≤ length (a .cells .now) = omega (arith, n .negates .holding .wellFormed .0 .short, start .pre .1 .1 .1) in
-            let asked : Asked d (a .below - 1) store (a .held) (a .budget) (a .steps) p ts (r .result) =
+            let asked : Asked d (a .below - 1) store (a .held) (a .steps .budget) (a .steps .used) p ts (r .result) =
             record {
               pays = start .pre .1 .1 .1 .1;
               fits = omega (arith, atom-room n, at-if2 .if2 .left, negates-inside (n .negates), l);
               replied = rw l (r .ensures .0 d p ts (n .opens) (to-ask n k));
             } in
-            turned-from d (a .below) (a .store .now) store (a .held) (a .budget) (a .steps) g gs (at-settle .settle .last .0) (at-settle .settle .result) l e
-            (rw below at (at-settle .settle .ensures d g gs before p ts after (a .below - 1) (a .budget) (a .steps) (still-negates n store l e) asked)),
+            turned-from d (a .below) (a .store .now) store (a .held) (a .steps .budget) (a .steps .used) g gs (at-settle .settle .last .0) (at-settle .settle .result) l e
+            (rw below at (at-settle .settle .ensures d g gs before p ts after (a .below - 1) (a .steps .budget) (a .steps .used) (still-negates n store l e) asked)),
         r .ensures .1 .0,
       )

@@ -23,7 +23,8 @@ use Rattle.listing.proofs.terms.put_terms.Reads as put-terms
 use Rattle.listing.proofs.terms.put_terms.Kinds as put-terms-kinds
 use Rattle.listing.proofs.terms.+put_term+put_terms.Lts-put_terms as put-terms-lts
 use Rattle.listing.proofs.numbers.put_prefixed.Reads as put-prefixed-reads
-use Rattle.listing.proofs.words.word.Reads as word-reads
+use Rattle.words.proofs.word.Reads as word-reads
+use Rattle.signature.proofs.arity.Reads as arity-reads
 
 abbrev μ-put-term : Measures 3 put-term-kinds.ps ℕ
 μ-put-term κs a = 2 * (length (a .1 .1 .0 .now) - a .1 .1 .1 .0)
@@ -46,7 +47,7 @@ put-terms-below t =
     and 3 put-terms-kinds.ps (falls 3 put-terms-kinds.ps _<_ μ-put-terms t) put-terms.Pre
 
 abbrev put-term-E : ℕ → put-term-lts.Claims
-put-term-E t = (word-reads.Asked, word-reads.Learnt, put-prefixed-reads.Asked, put-prefixed-reads.Learnt, put-terms-below t, put-terms.Post)
+put-term-E t = (word-reads.Asked, word-reads.Learnt, put-prefixed-reads.Asked, put-prefixed-reads.Learnt, arity-reads.Asked, arity-reads.Learnt, put-terms-below t, put-terms.Post)
 
 abbrev put-terms-E : ℕ → put-terms-lts.Claims
 put-terms-E t = (put-term-below t, put-term.Post, put-terms-below t, put-terms.Post)
@@ -84,7 +85,7 @@ module _ (t : ℕ) where
       (printAfter 40 (functor (c .before .before .before .before .before .before) u .arguments) ++ (41 ∷ []))
   brackets c u =
       let f = functor (c .before .before .before .before .before .before) u in
-      let e = in-brackets (f .arguments) (λ z. c .if2 .left (c .before .word2 .ensures .0 ∙ f .arity ∙ z)) in
+      let e = in-brackets (f .arguments) (λ z. c .if2 .left (c .before .arity .ensures ∙ f .arity ∙ z)) in
       put-some (all-left _ _ (f .text ∙ ap ((115 ∷ decimal (c .before .before .before .before .before .before .before .word .result) []) ++_) e)) (c .before .before .before .before .put-prefixed2 .ensures)
 
   abbrev closing-start : put-term-lts.After-put-terms (put-term-E t) (put-term-at t) put-term.Post → Term-start
@@ -97,7 +98,7 @@ module _ (t : ℕ) where
       (sizes (functor (c .before .before .before .before .before .before .before .before) u .arguments)) (c .put-terms .result .at) (c .put-terms .result .from) (c .put-terms .last .0)
   arguments-put c u =
       let f = functor (c .before .before .before .before .before .before .before .before) u in
-      c .put-terms .ensures (f .arguments) (f .standing) (sym (c .before .before .before .word2 .ensures .0 ∙ f .arity))
+      c .put-terms .ensures (f .arguments) (f .standing) (sym (c .before .before .before .arity .ensures ∙ f .arity))
 
   closing :
       (c : put-term-lts.After-put-terms (put-term-E t) (put-term-at t) put-term.Post) (u : Standing (closing-start c))
@@ -134,8 +135,8 @@ module _ (t : ℕ) where
       let s = c .before .before .before .before .before .before in
       left-room (115 ∷ decimal (c .before .before .word .result) []) _ (all-left (s .args .out .now) (s .args .at) (functor (c .before) (given s) .text)) (s .pre .1 .2)
 
-  put-term-word-requires-2 : put-term-lts.Need-word-requires-2 (put-term-E t) (put-term-at t) put-term.Post
-  put-term-word-requires-2 c κs = functor (c .before .before .before .before) (given (c .before .before .before .before .before .before .before .before .before)) .known
+  put-term-arity-requires : put-term-lts.Need-arity-requires (put-term-E t) (put-term-at t) put-term.Post
+  put-term-arity-requires c κs = functor (c .before .before .before .before) (given (c .before .before .before .before .before .before .before .before .before)) .known
 
   put-term-same-length-2 : put-term-lts.Need-same-length-2 (put-term-E t) (put-term-at t) put-term.Post
   put-term-same-length-2 c = search needs
@@ -143,7 +144,7 @@ module _ (t : ℕ) where
   put-term-returns-2 : put-term-lts.Need-returns-2 (put-term-E t) (put-term-at t) put-term.Post
   put-term-returns-2 c = λ u a.
       let f = functor (c .before .before .before .before .before .before) (u, a) in
-      let z = no-arguments (f .arguments) (sym (c .before .word2 .ensures .0 ∙ f .arity) ∙ c .if2 .taken) in
+      let z = no-arguments (f .arguments) (sym (c .before .arity .ensures ∙ f .arity) ∙ c .if2 .taken) in
       record {
         put = rw (f .text, z .0, append-nil (decimal (c .before .before .before .before .before .before .before .word .result) [])) (c .before .before .before .before .put-prefixed2 .ensures);
         passed = omega (arith, f .whole, z .1);
@@ -154,7 +155,7 @@ module _ (t : ℕ) where
       let s = c .before .before .before .before .before .before .before .before .before .before .before .before in
       let f = functor (c .before .before .before .before .before .before .before) (given s) in (
         omega (arith, inside s, s .pre .0),
-        (f .arguments, f .standing, sym (c .before .before .word2 .ensures .0 ∙ f .arity), left-room (printAfter 40 (f .arguments)) _ (brackets (c .before) (given s)) (s .pre .1 .2)),
+        (f .arguments, f .standing, sym (c .before .before .arity .ensures ∙ f .arity), left-room (printAfter 40 (f .arguments)) _ (brackets (c .before) (given s)) (s .pre .1 .2)),
       )
 
   put-term-slice-write-out : put-term-lts.Need-slice-write-out (put-term-E t) (put-term-at t) put-term.Post
@@ -265,7 +266,7 @@ pub +put-term+put-terms-spec : {M : Type 1} → statement M
     (put-term-returns t)
     (put-term-cast-put-prefixed-2 t)
     (put-term-put-prefixed-requires-2 t)
-    (put-term-word-requires-2 t)
+    (put-term-arity-requires t)
     (put-term-same-length-2 t)
     (put-term-returns-2 t)
     (put-term-put-terms-requires t)

@@ -5,25 +5,12 @@ use Rattle.resolvents.proofs.WalkLaws.{range-whole}
 use Rattle.resolvents.proofs.put.put_range.Statement.{statement}
 use Rattle.resolvents.proofs.put.put_range.Tie as tie
 
-sub-put-terms : tie.Need-sub-put-terms
-sub-put-terms c = search needs
-
 put-terms-requires : tie.Need-put-terms-requires
-put-terms-requires c κs = let a = c .before .before .before .before .before .before .before .before .before .before .pre in (a .0, (a .1 .0, (a .1 .1 .0, (omega (arith, a .1 .1 .0 .inside, a .0 .formed .short), a .1 .1 .1 .1))))
-
-same-length : tie.Need-same-length
-same-length c = search needs
-
-same-length-2 : tie.Need-same-length-2
-same-length-2 c = search needs
-
-same-length-3 : tie.Need-same-length-3
-same-length-3 c = search needs
+put-terms-requires c κs = let a = c .before .before .before .before .before .pre in (a .0, (a .1 .0, (a .1 .1 .0, (omega (arith, a .1 .1 .0 .inside, a .0 .formed .short), a .1 .1 .1 .1, a .1 .1 .1 .2))))
 
 returns : tie.Need-returns
-returns c = let s = c .before .before .before .before .before .before .before .before .before .before .before .before .before .before .before .before .before in rw (range-whole (s .args .symbols .now) (s .args .cells .now) (s .args .p) (s .args .end) (s .pre .1 .1 .0 .inside)) at (c .before .before .before .before .before .before .put-terms .ensures)
+returns c = let s = c .before .before .before .before .before .before .before .before in rw (range-whole (s .args .symbols .now) (s .args .cells .now) (s .args .p) (s .args .end) (s .pre .1 .1 .0 .inside)) at (c .before .before .put-terms .ensures)
 
 pub put-range-spec : {M : Type 1} → statement M
-put-range-spec =
-    tie.close
-    (tie.spec sub-put-terms put-terms-requires same-length same-length-2 same-length-3 returns)
+put-range-spec = tie.close (tie.spec
+    (λ c. search needs) put-terms-requires (λ c. search needs) returns)

@@ -2,60 +2,59 @@
 use mathlib.Core.Path.{refl}
 use native.Mathlib.Omega.{arith}
 use borrow.Author.Needs.{needs}
+use Rattle.rules.specs.Resolution.{resolvent}
+use Rattle.resolvents.proofs.DraftLaws.{draft-words}
 use Rattle.resolvents.proofs.CallLaws.{selected-inside, arity-known, few-variables, fresh-fit, first-argument, first-of-head, call-differs, call-short, call-room, both-cells, goal-kept, call-together, call-resolved}
 use Rattle.resolvents.proofs.resolve.resolve_clause.Statement.{statement}
 use Rattle.resolvents.proofs.resolve.resolve_clause.Tie as tie
 
 mul-arity-of : tie.Need-mul-arity-of
 mul-arity-of c =
-    let start = c .before .before .before .before .before .before .before .before .before in
+    let start = c .before .before .before .before .before in
     omega (arith, start .pre .0 .calls .inside, selected-inside (start .pre .0 .calls) (start .pre .0 .about))
 
 slice-read-arity-of : tie.Need-slice-read-arity-of
 slice-read-arity-of c =
-    let start = c .before .before .before .before .before .before .before .before .before .before in
+    let start = c .before .before .before .before .before .before in
     omega (arith, start .pre .0 .calls .inside, selected-inside (start .pre .0 .calls) (start .pre .0 .about))
 
 cast-arity-of : tie.Need-cast-arity-of
 cast-arity-of c =
-    let start = c .before .before .before .before .before .before .before .before .before .before in
-    omega (arith, c .slice-known8 .given (start .args .s))
+    let start = c .before .before .before .before .before .before in
+    omega (arith, c .slice-known4 .given (start .args .call .s))
 
 arity-of-requires : tie.Need-arity-of-requires
 arity-of-requires c κs =
-    let start = c .before .before .before .before .before .before .before .before .before .before in
+    let start = c .before .before .before .before .before .before in
     arity-known (start .pre .0 .calls) (start .pre .0 .about)
 
 add-differ : tie.Need-add-differ
 add-differ c =
-    let start = c .before .before .before .before .before .before .before .before .before .before .before .before in
+    let start = c .before .before .before .before .before .before .before .before in
     omega (arith, start .pre .0 .calls .inside, selected-inside (start .pre .0 .calls) (start .pre .0 .about))
 
 mul-differ : tie.Need-mul-differ
 mul-differ c =
-    let start = c .before .before .before .before .before .before .before .before .before .before .before .before in
+    let start = c .before .before .before .before .before .before .before .before in
     omega (arith, start .pre .0 .calls .inside, selected-inside (start .pre .0 .calls) (start .pre .0 .about))
 
 slice-read-differ : tie.Need-slice-read-differ
 slice-read-differ c =
-    let start = c .before .before .before .before .before .before .before .before .before .before .before .before .before in
+    let start = c .before .before .before .before .before .before .before .before .before in
     let arity-of = c .before .before .arity-of in
     let if1 = c .before .if1 in
     omega (arith, start .pre .0 .calls .inside, first-argument (start .pre .0 .calls) (start .pre .0 .about) (rw (arity-of .ensures) at (if1 .taken)))
 
 shared-slice-read-differ : tie.Need-shared-slice-read-differ
 shared-slice-read-differ c =
-    let start = c .before .before .before .before .before .before .before .before .before .before .before .before .before .before in
+    let start = c .before .before .before .before .before .before .before .before .before .before in
     let arity-of = c .before .before .before .arity-of in
     let if1 = c .before .before .if1 in
     omega (arith, first-of-head (start .pre .0 .calls) (start .pre .0 .about) (rw (arity-of .ensures) at (if1 .taken)))
 
-differ-requires : tie.Need-differ-requires
-differ-requires c κs = search needs
-
 returns : tie.Need-returns
 returns c =
-    let start = c .before .before .before .before .before .before .before .before .before .before .before .before .before .before .before .before in
+    let start = c .before .before .before .before .before .before .before .before .before .before .before .before in
     let arity-of = c .before .before .before .before .before .arity-of in
     let if1 = c .before .before .before .before .if1 in
     let differ = c .before .differ in
@@ -63,68 +62,44 @@ returns c =
 
 cast-copy-fresh : tie.Need-cast-copy-fresh
 cast-copy-fresh c =
-    let start = c .before .before .before .before .before .before .before .before .before .before .before .before .before in
+    let start = c .before .before .before .before .before .before .before .before .before in
     omega (arith, few-variables (start .pre .0 .calls) (start .pre .0 .about))
 
 copy-fresh-requires : tie.Need-copy-fresh-requires
 copy-fresh-requires c κs =
-    let start = c .before .before .before .before .before .before .before .before .before .before .before .before .before in
+    let start = c .before .before .before .before .before .before .before .before .before in
     (call-room (start .pre .0 .calls) (start .pre .0 .about) (start .pre .1 .1), fresh-fit (start .pre .0 .calls) (start .pre .0 .about))
 
 add-total : tie.Need-add-total
 add-total c =
-    let start = c .before .before .before .before .before .before .before .before .before .before .before .before .before .before .before .before in
+    let start = c .before .before .before .before .before .before .before .before .before .before .before .before in
     omega (arith, call-short (start .pre .0 .calls) (start .pre .0 .about))
-
-sub-resolve-cells : tie.Need-sub-resolve-cells
-sub-resolve-cells c = search needs
-
-part-resolve-cells-start : tie.Need-part-resolve-cells-start
-part-resolve-cells-start c = search needs
 
 part-resolve-cells-end : tie.Need-part-resolve-cells-end
 part-resolve-cells-end c =
-    let start = c .before .before .before .before .before .before .before .before .before .before .before .before .before .before .before .before .before in
+    let start = c .before .before .before .before .before .before .before .before .before .before .before .before .before in
     let copy-fresh = c .before .before .before .copy-fresh in
     omega (arith, call-room (start .pre .0 .calls) (start .pre .0 .about) (start .pre .1 .1), copy-fresh .kept .1 .0)
 
 resolve-cells-requires : tie.Need-resolve-cells-requires
 resolve-cells-requires c κs =
-    let start = c .before .before .before .before .before .before .before .before .before .before .before .before .before .before .before .before .before .before .before .before .before .before .before .before in
-    let arity-of = c .before .before .before .before .before .before .before .before .before .before .before .before .before .arity-of in
-    let copy-fresh = c .before .before .before .before .before .before .before .before .before .before .copy-fresh in
+    let start = c .before .before .before .before .before .before .before .before .before .before .before .before .before .before .before .before in
+    let arity-of = c .before .before .before .before .before .before .before .before .before .arity-of in
+    let copy-fresh = c .before .before .before .before .before .before .copy-fresh in
     (call-together (start .pre .0 .calls) (start .pre .0 .about) (both-cells (start .pre .0 .calls) (start .pre .0 .about) (copy-fresh .ensures) (start .pre .1 .1)) (arity-of .ensures), start .pre .1 .0)
-
-same-length : tie.Need-same-length
-same-length c = search needs
-
-same-length-2 : tie.Need-same-length-2
-same-length-2 c = search needs
-
-same-length-3 : tie.Need-same-length-3
-same-length-3 c = search needs
-
-same-length-4 : tie.Need-same-length-4
-same-length-4 c = search needs
-
-same-length-5 : tie.Need-same-length-5
-same-length-5 c = search needs
-
-same-length-6 : tie.Need-same-length-6
-same-length-6 c = search needs
-
-same-length-7 : tie.Need-same-length-7
-same-length-7 c = search needs
 
 returns-2 : tie.Need-returns-2
 returns-2 c =
-    let start = c .before .before .before .before .before .before .before .before .before .before .before .before .before .before .before .before .before .before .before .before .before .before .before .before .before .before .before .before .before .before .before .before .before .before .before .before .before in
-    let arity-of = c .before .before .before .before .before .before .before .before .before .before .before .before .before .before .before .before .before .before .before .before .before .before .before .before .before .before .arity-of in
-    let copy-fresh = c .before .before .before .before .before .before .before .before .before .before .before .before .before .before .before .before .before .before .before .before .before .before .before .copy-fresh in
-    let resolve-cells = c .before .before .before .before .before .before .before .before .before .before .before .before .resolve-cells in (
-      λ S g before p ts after clause k a. call-resolved k a (both-cells k a (copy-fresh .ensures) (start .pre .1 .1)) (arity-of .ensures) _ _ (resolve-cells .ensures .0),
+    let start = c .before .before .before .before .before .before .before .before .before .before .before .before .before .before .before .before .before .before .before .before .before in
+    let arity-of = c .before .before .before .before .before .before .before .before .before .before .before .before .before .before .arity-of in
+    let copy-fresh = c .before .before .before .before .before .before .before .before .before .before .before .copy-fresh in
+    let resolve-cells = c .before .before .before .before .resolve-cells in (
+      λ S g before p ts after clause k a. draft-words (resolvent (start .args .n) (g .answers) before ts after clause) (resolve-cells .last .1 .1 .1 .1 .1 .0) (resolve-cells .result) (call-resolved k a (both-cells k a (copy-fresh .ensures) (start .pre .1 .1)) (arity-of .ensures) _ _ (resolve-cells .ensures .0)),
       (resolve-cells .ensures .1, goal-kept (start .pre .0 .calls) (start .pre .0 .about) (copy-fresh .ensures) (start .pre .1 .1)),
     )
 
 pub resolve-clause-spec : {M : Type 1} → statement M
-resolve-clause-spec = tie.close (tie.spec mul-arity-of slice-read-arity-of cast-arity-of arity-of-requires add-differ mul-differ slice-read-differ shared-slice-read-differ differ-requires returns cast-copy-fresh copy-fresh-requires add-total sub-resolve-cells part-resolve-cells-start part-resolve-cells-end resolve-cells-requires same-length same-length-2 same-length-3 same-length-4 same-length-5 same-length-6 same-length-7 returns-2)
+resolve-clause-spec = tie.close (tie.spec
+    mul-arity-of slice-read-arity-of cast-arity-of arity-of-requires add-differ mul-differ slice-read-differ shared-slice-read-differ
+    (λ c. search needs) returns cast-copy-fresh copy-fresh-requires add-total (λ c. search needs) (λ c. search needs)
+    part-resolve-cells-end resolve-cells-requires (λ c. search needs) (λ c. search needs) (λ c. search needs) returns-2)
