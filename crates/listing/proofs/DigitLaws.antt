@@ -1,32 +1,26 @@
 -- Decimal digits by weights are the digits of the written rules, for every number below the power of ten above the weights.
-use Prim.Native.Nat.{ℕ, zero, suc, _+_, _*_, _/_, _%_, _≤_, _<_}
+use Prim.Native.Nat.{ℕ, zero, suc, _+_, _-_, _*_, _/_, _%_, _≤_, _<_}
 use mathlib.Core.Path.{_≡_, refl, ap, ap₂, sym, _∙_}
 use mathlib.Core.Bool.{Bool, true, false, _||_}
 use mathlib.Core.List.{List, [], _∷_, _++_, append-assoc, append-nil}
 use native.Mathlib.Omega.{arith}
 use native.Mathlib.Decide.{decLt}
-use native.Mathlib.Numerals.{add-one}
-use native.Mathlib.Nat.{le-div-iff-mul-le, div-lt-iff-lt-mul, div-div-eq-div-mul, div-one, mul-comm, mul-le-mul-left}
+use native.Mathlib.Nat.{le-div-iff-mul-le, div-lt-iff-lt-mul, div-div-eq-div-mul, div-one, mul-comm, zero-add, suc-add}
 use lib.Dec.{leb, eqb}
-use lib.ListN.{length, getD, drop, length-append}
-use lib.Seq.{drop-cons}
+use lib.ListN.{length, length-append}
 use borrow.Author.Tests.{lt-ltb, le-ltb, le-leb, lt-leb, ne-eqb}
 use Rattle.rules.specs.WellFormed.{All}
 use Rattle.rules.specs.Listing.{digits, decimal}
-use Rattle.listing.specs.Digits.{shownIf, digit, digitsAt, weights}
+use Rattle.listing.specs.Digits.{shownIf, digit, digitsAt, weightAt, weightsOf, weights}
 
--- The powers of ten, the greatest first, and ten to the number of them.
+-- Ten times the weights, and the last place.
 abbrev scale : ℕ → List ℕ → List ℕ
 scale c [] = []
 scale c (w ∷ ws) = (c * w) ∷ scale c ws
 
-abbrev powers : ℕ → List ℕ
-powers zero = []
-powers (suc k) = scale 10 (powers k) ++ (1 ∷ [])
-
-abbrev pub limit : ℕ → ℕ
-limit zero = 1
-limit (suc k) = limit k * 10
+weights-last : (k : ℕ) → weightsOf (suc k) ≡ scale 10 (weightsOf k) ++ (1 ∷ [])
+weights-last zero = refl
+weights-last (suc k) = ap {B = List ℕ} ((10 * weightAt k) ∷_) (weights-last k)
 
 Positive : List ℕ → Type 0
 Positive ws = All (λ w. 0 < w) ws
@@ -79,24 +73,18 @@ last-digit n = ap (λ (d : ℕ). shownIf (leb 1 n || eqb 1 1) (48 + d % 10)) (di
     go true = refl
     go false = refl
 
-scale-positive : (c : ℕ) → 0 < c → (ws : List ℕ) → Positive ws → Positive (scale c ws)
-unfolding Positive
-scale-positive c h [] p = tt
-scale-positive c h (w ∷ ws) p = let q : c * 1 ≤ c * w = mul-le-mul-left c (p .0) in (omega arith, scale-positive c h ws (p .1))
+pub weight-positive : (k : ℕ) → 0 < weightAt k
+weight-positive zero = omega arith
+weight-positive (suc k) = omega (arith, weight-positive k)
 
-snoc-positive : (ws : List ℕ) → Positive ws → Positive (ws ++ (1 ∷ []))
+weights-positive : (k : ℕ) → Positive (weightsOf k)
 unfolding Positive
-snoc-positive [] p = (omega arith, tt)
-snoc-positive (w ∷ ws) p = (p .0, snoc-positive ws (p .1))
-
-powers-positive : (k : ℕ) → Positive (powers k)
-unfolding Positive
-powers-positive zero = tt
-powers-positive (suc k) = snoc-positive (scale 10 (powers k)) (scale-positive 10 (omega arith) (powers k) (powers-positive k))
+weights-positive zero = tt
+weights-positive (suc k) = (weight-positive k, weights-positive k)
 
 -- The law. The last digit is split off on both sides.
-last-apart : (k n : ℕ) → digitsAt (powers (suc k)) n ≡ digitsAt (scale 10 (powers k)) n ++ ((48 + n % 10) ∷ [])
-last-apart k n = digitsAt-append (scale 10 (powers k)) (1 ∷ []) n ∙ ap (digitsAt (scale 10 (powers k)) n ++_) (ap (_++ []) (last-digit n))
+last-apart : (k n : ℕ) → digitsAt (weightsOf (suc k)) n ≡ digitsAt (scale 10 (weightsOf k)) n ++ ((48 + n % 10) ∷ [])
+last-apart k n = ap (λ ws. digitsAt ws n) (weights-last k) ∙ digitsAt-append (scale 10 (weightsOf k)) (1 ∷ []) n ∙ ap (digitsAt (scale 10 (weightsOf k)) n ++_) (ap (_++ []) (last-digit n))
 
 one-digit : (n more : ℕ) (rest : List ℕ) → n < 10 → digits (suc more) n rest ≡ (48 + n) ∷ rest
 unfolding digits
@@ -106,26 +94,26 @@ more-digits : (n more : ℕ) (rest : List ℕ) → 10 ≤ n → digits (suc more
 unfolding digits
 more-digits n more rest h = rw (le-ltb n 10 h, digits)
 
-small : (k n : ℕ) → n < 10 → digitsAt (powers (suc k)) n ≡ (48 + n) ∷ []
+small : (k n : ℕ) → n < 10 → digitsAt (weightsOf (suc k)) n ≡ (48 + n) ∷ []
 small k n h =
     let m : n % 10 ≡ n = omega arith in
-    last-apart k n ∙ ap₂ _++_ (none-shown n h (powers k) (powers-positive k)) (ap (λ (d : ℕ). (48 + d) ∷ []) m)
+    last-apart k n ∙ ap₂ _++_ (none-shown n h (weightsOf k) (weights-positive k)) (ap (λ (d : ℕ). (48 + d) ∷ []) m)
 
-large : (k n : ℕ) (rest : List ℕ) → 10 ≤ n → digitsAt (powers (suc k)) (n / 10) ++ ((48 + n % 10) ∷ rest) ≡ digitsAt (powers (suc (suc k))) n ++ rest
+large : (k n : ℕ) (rest : List ℕ) → 10 ≤ n → digitsAt (weightsOf (suc k)) (n / 10) ++ ((48 + n % 10) ∷ rest) ≡ digitsAt (weightsOf (suc (suc k))) n ++ rest
 large k n rest h =
-    rw (last-apart (suc k) n, scaled 10 n (omega arith) h (powers (suc k)) (powers-positive (suc k)))
-    (sym (append-assoc (digitsAt (powers (suc k)) (n / 10)) ((48 + n % 10) ∷ []) rest))
+    rw (last-apart (suc k) n, scaled 10 n (omega arith) h (weightsOf (suc k)) (weights-positive (suc k)))
+    (sym (append-assoc (digitsAt (weightsOf (suc k)) (n / 10)) ((48 + n % 10) ∷ []) rest))
 
-digits-by-powers : (k n more : ℕ) (rest : List ℕ) → n < limit (suc k) → n ≤ more → digits (suc more) n rest ≡ digitsAt (powers (suc k)) n ++ rest
-digits-by-powers zero n more rest h f = one-digit n more rest h ∙ ap (_++ rest) (sym (small zero n h))
-digits-by-powers (suc k) n zero rest h f = one-digit n zero rest (omega arith) ∙ ap (_++ rest) (sym (small (suc k) n (omega arith)))
-digits-by-powers (suc k) n (suc more) rest h f = go (decLt n 10) (digits-by-powers k (n / 10) more ((48 + n % 10) ∷ rest))
+digits-by-weights : (k n more : ℕ) (rest : List ℕ) → n < weightAt (suc k) → n ≤ more → digits (suc more) n rest ≡ digitsAt (weightsOf (suc k)) n ++ rest
+digits-by-weights zero n more rest h f = one-digit n more rest h ∙ ap (_++ rest) (sym (small zero n h))
+digits-by-weights (suc k) n zero rest h f = one-digit n zero rest (omega arith) ∙ ap (_++ rest) (sym (small (suc k) n (omega arith)))
+digits-by-weights (suc k) n (suc more) rest h f = go (decLt n 10) (digits-by-weights k (n / 10) more ((48 + n % 10) ∷ rest))
   where
     go :
         Dec (n < 10)
-        → (n / 10 < limit (suc k) → n / 10 ≤ more
-        → digits (suc more) (n / 10) ((48 + n % 10) ∷ rest) ≡ digitsAt (powers (suc k)) (n / 10) ++ ((48 + n % 10) ∷ rest))
-        → digits (suc (suc more)) n rest ≡ digitsAt (powers (suc (suc k))) n ++ rest
+        → (n / 10 < weightAt (suc k) → n / 10 ≤ more
+        → digits (suc more) (n / 10) ((48 + n % 10) ∷ rest) ≡ digitsAt (weightsOf (suc k)) (n / 10) ++ ((48 + n % 10) ∷ rest))
+        → digits (suc (suc more)) n rest ≡ digitsAt (weightsOf (suc (suc k))) n ++ rest
     go (yes l) r = one-digit n (suc more) rest l ∙ ap (_++ rest) (sym (small (suc k) n l))
     go (no l) r = more-digits n (suc more) rest (omega arith) ∙ r (omega arith) (omega arith) ∙ large k n rest (omega arith)
 
@@ -145,18 +133,18 @@ pub decimal-append : (n : ℕ) (xs rest : List ℕ) → decimal n (xs ++ rest) �
 unfolding decimal
 decimal-append n xs rest = digits-append (suc n) n xs rest
 
-decimal-by-powers : (k n : ℕ) → n < limit (suc k) → decimal n [] ≡ digitsAt (powers (suc k)) n
+decimal-by-weights : (k n : ℕ) → n < weightAt (suc k) → decimal n [] ≡ digitsAt (weightsOf (suc k)) n
 unfolding decimal
-decimal-by-powers k n h = digits-by-powers k n n [] h (omega arith) ∙ append-nil (digitsAt (powers (suc k)) n)
+decimal-by-weights k n h = digits-by-weights k n n [] h (omega arith) ∙ append-nil (digitsAt (weightsOf (suc k)) n)
 
 pub decimal-five : (n : ℕ) → n < 100000 → decimal n [] ≡ digitsAt weights n
-decimal-five n h = decimal-by-powers 4 n h
+decimal-five n h = decimal-by-weights 4 n h
 
 pub decimal-long : (n : ℕ) → 100000 ≤ n → n < 10000000000 → decimal n [] ≡ digitsAt weights (n / 100000) ++ digitsAt weights n
 decimal-long n l h =
-    decimal-by-powers 9 n h
+    decimal-by-weights 9 n h
     ∙ digitsAt-append (scale 100000 weights) weights n
-    ∙ ap (_++ digitsAt weights n) (scaled 100000 n (omega arith) l weights (powers-positive 5))
+    ∙ ap (_++ digitsAt weights n) (scaled 100000 n (omega arith) l weights (weights-positive 5))
 
 shown-length : (b : Bool) (x : ℕ) → length (shownIf b x) ≤ 1
 shown-length true x = omega arith
@@ -167,26 +155,22 @@ digits-length [] n = omega arith
 digits-length (w ∷ ws) n =
     omega (arith, length-append (digit w n) (digitsAt ws n), shown-length (leb w n || eqb w 1) (48 + n / w % 10), digits-length ws n)
 
-scale-length : (c : ℕ) (ws : List ℕ) → length (scale c ws) ≡ length ws
-scale-length c [] = refl
-scale-length c (w ∷ ws) = ap suc (scale-length c ws)
+weights-length : (k : ℕ) → length (weightsOf k) ≡ k
+weights-length zero = refl
+weights-length (suc k) = ap suc (weights-length k)
 
-powers-length : (k : ℕ) → length (powers k) ≡ k
-powers-length zero = refl
-powers-length (suc k) = omega (arith, length-append (scale 10 (powers k)) (1 ∷ []), scale-length 10 (powers k), powers-length k)
+pub decimal-length : (k n : ℕ) → n < weightAt (suc k) → length (decimal n []) ≤ suc k
+decimal-length k n h = omega (arith, ap length (decimal-by-weights k n h), digits-length (weightsOf (suc k)) n, weights-length (suc k))
 
-pub decimal-length : (k n : ℕ) → n < limit (suc k) → length (decimal n []) ≤ suc k
-decimal-length k n h = omega (arith, ap length (decimal-by-powers k n h), digits-length (powers (suc k)) n, powers-length (suc k))
+-- The digit of the first of so many places, and those of the others.
+pub digits-next : (k n : ℕ) → 0 < k → digitsAt (weightsOf k) n ≡ digit (weightAt (k - 1)) n ++ digitsAt (weightsOf (k - 1)) n
+digits-next zero n h = absurd (omega arith)
+digits-next (suc k) n h = let e : suc k - 1 ≡ k = omega arith in rw e
 
--- The weights one by one.
-pub weight-positive : (k : ℕ) → k < 5 → 0 < getD weights k 0
-unfolding Positive
-weight-positive k h = go weights (powers-positive 5) k h
-  where
-    go : (ws : List ℕ) → Positive ws → (k : ℕ) → k < length ws → 0 < getD ws k 0
-    go [] p k h = absurd (omega arith)
-    go (w ∷ ws) p zero h = p .0
-    go (w ∷ ws) p (suc k) h = go ws (p .1) k (omega arith)
+-- The weights that are worked out fit their type.
+weight-rises : (i d : ℕ) → weightAt i ≤ weightAt (d + i)
+weight-rises i zero = omega (arith, ap weightAt (zero-add i))
+weight-rises i (suc d) = omega (arith, weight-rises i d, ap weightAt (suc-add d i))
 
-pub digits-next : (k n : ℕ) → k < 5 → digitsAt (drop k weights) n ≡ digit (getD weights k 0) n ++ digitsAt (drop (k + 1) weights) n
-digits-next k n h = rw (add-one k) (ap (λ (l : List ℕ). digitsAt l n) (drop-cons weights k 0 h))
+pub weight-small : (i : ℕ) → i < 4 → weightAt i ≤ 1000
+weight-small i h = let z : 3 - i + i ≡ 3 = omega arith in rw z at (weight-rises i (3 - i))

@@ -1,5 +1,5 @@
 -- Decimal digits by weights.
-use Prim.Native.Nat.{ℕ, _+_, _/_, _%_}
+use Prim.Native.Nat.{ℕ, zero, suc, _+_, _*_, _/_, _%_}
 use mathlib.Core.Bool.{Bool, true, false, _||_}
 use mathlib.Core.List.{List, [], _∷_, _++_}
 use lib.Dec.{leb, eqb}
@@ -17,5 +17,15 @@ abbrev pub digitsAt : List ℕ → ℕ → List ℕ
 digitsAt [] n = []
 digitsAt (weight ∷ ws) n = digit weight n ++ digitsAt ws n
 
+-- The weight of a place, which is ten times that of the next. Places are counted from the last, which is 0.
+abbrev pub weightAt : ℕ → ℕ
+weightAt zero = 1
+weightAt (suc place) = 10 * weightAt place
+
+-- The weights of so many places, the greatest first, and those of the five that are written at once.
+abbrev pub weightsOf : ℕ → List ℕ
+weightsOf zero = []
+weightsOf (suc k) = weightAt k ∷ weightsOf k
+
 abbrev pub weights : List ℕ
-weights = 10000 ∷ 1000 ∷ 100 ∷ 10 ∷ 1 ∷ []
+weights = weightsOf 5

@@ -1,12 +1,25 @@
-// Decimal numbers, by a table of weights.
+// Decimal numbers, digit by digit from the greatest weight.
 ghost use Prim.Native.Nat.{_+_, _<_, _≤_};
+ghost use mathlib.Core.Path.{_≡_};
 ghost use mathlib.Core.List.{[], _∷_};
 ghost use lib.ListN.{length};
 ghost use Rattle.rules.specs.Listing.{decimal};
-ghost use Rattle.listing.specs.Digits.{digit, digitsAt, weights};
+ghost use Rattle.listing.specs.Digits.{digit, digitsAt, weightAt, weights};
 ghost use Rattle.listing.specs.Put.{Put};
 
-const WEIGHTS: [u32; 5] = [10000, 1000, 100, 10, 1];
+// The weight of a place, counted from the last: ten times that of the next.
+fn weight(place: usize) -> u32
+    requires { ⌜ place < 5 ⌝ }
+    ensures { λ r. ⌜ r ≡ weightAt place ⌝ }
+{
+    let mut w = 1;
+    let mut i = 0;
+    while i < place {
+        w = 10 * w;
+        i += 1;
+    }
+    w
+}
 
 // Writes the digit of n at a weight, unless it is a leading zero.
 fn put_digit(out: &mut [u8], at: usize, n: u32, weight: u32) -> usize
@@ -28,11 +41,10 @@ fn put_five(out: &mut [u8], at: usize, n: u32) -> usize
     ensures { λ r. ⌜ Put (now (out .entry)) at (digitsAt weights n) r (now (out .exit)) ⌝ }
 {
     let mut p = at;
-    let mut k = 0;
-    while k < 5 {
-        let weight = WEIGHTS[k];
-        p = put_digit(out, p, n, weight);
-        k += 1;
+    let mut places = 5;
+    while 0 < places {
+        places -= 1;
+        p = put_digit(out, p, n, weight(places));
     }
     p
 }
