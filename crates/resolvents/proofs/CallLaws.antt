@@ -307,9 +307,9 @@ module _ {ar cells clause : List ℕ} {size answers s e n : ℕ} {S : List Symbo
 
     literals-range : literalsBefore ar both size answers s e ≡ litTerms (place before (mapLiterals (fresh n) (c .body)) after)
     literals-range =
-        ap₂ _+++_ before-range (ap₂ _+++_ body-range after-range)
-        ∙ ap (litTerms before +++_) (sym (lits-append (mapLiterals (fresh n) (c .body)) after))
-        ∙ sym (lits-append before (mapLiterals (fresh n) (c .body) ++ after))
+        ap₂ _+++_ before-range (ap₂ _+++_ after-range body-range)
+        ∙ ap (litTerms before +++_) (sym (lits-append after (mapLiterals (fresh n) (c .body))))
+        ∙ sym (lits-append before (after ++ mapLiterals (fresh n) (c .body)))
 
     -- What is written of them is the resolvent.
     pub call-resolved :

@@ -110,9 +110,9 @@ module _ (ar cells bs trail : List ℕ) (n size answers s e body : ℕ) (here : 
       let B = within ar cells answers s in
       let C = within ar cells (placeAfter ar cells size) (length cells) in
       let D = within ar cells e size in
-      applys-append es B (C +++ D)
-      ∙ ap (applys es B +++_) (applys-append es C D)
-      ∙ ap (λ p. applys es B +++ (applys es (within ar cells p (length cells)) +++ applys es D)) (sym here)
+      applys-append es B (D +++ C)
+      ∙ ap (applys es B +++_) (applys-append es D C)
+      ∙ ap (λ p. applys es B +++ (applys es D +++ applys es (within ar cells p (length cells)))) (sym here)
 
   pub derived-solved :
       {o : Unification} (child : List ℕ) (r : Resolved) (k : ℕ) → o ≡ solved k (elims ar cells bs trail n)

@@ -17,10 +17,10 @@ use Rattle.resolvents.specs.declared.resolve.Resolved.the-variants.{Noth
 abbrev pub rangeAfter : List ℕ → List ℕ → List ℕ → List ℕ → ℕ → ℕ → ℕ → Terms
 rangeAfter ar cells bs trail n p end = applys (elims ar cells bs trail n) (within ar cells p end)
 
--- The literals as terms: those before the selected one, which stands from s up to e, the clause's body from place `body` on, and those after it.
+-- The literals as terms: those before the selected one, which stands from s up to e, those after it, and the clause's body from place `body` on.
 abbrev pub literalsAfter : List ℕ → List ℕ → List ℕ → List ℕ → ℕ → ℕ → ℕ → ℕ → ℕ → ℕ → Terms
 literalsAfter ar cells bs trail n size answers s e body =
-    rangeAfter ar cells bs trail n answers s +++ (rangeAfter ar cells bs trail n body (length cells) +++ rangeAfter ar cells bs trail n e size)
+    rangeAfter ar cells bs trail n answers s +++ (rangeAfter ar cells bs trail n e size +++ rangeAfter ar cells bs trail n body (length cells))
 
 -- Such ranges in the cells.
 pub record Ranges (cells : List ℕ) (size answers s e body : ℕ) : Type 0 where
@@ -82,7 +82,7 @@ placeAfter ar cells p = p + size (termAt ar cells p)
 -- The literals of `literalsAfter` before the eliminations; the clause's body begins after its head.
 abbrev pub literalsBefore : List ℕ → List ℕ → ℕ → ℕ → ℕ → ℕ → Terms
 literalsBefore ar cells size answers s e =
-    within ar cells answers s +++ (within ar cells (placeAfter ar cells size) (length cells) +++ within ar cells e size)
+    within ar cells answers s +++ (within ar cells e size +++ within ar cells (placeAfter ar cells size) (length cells))
 
 -- A goal's `size` cells and then a clause's: in order, over 1,280 variables, with `number` arguments of the literal at s and of the head.
 pub record Together (ar cells : List ℕ) (size answers s e number : ℕ) : Type 0 where

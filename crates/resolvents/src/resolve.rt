@@ -64,8 +64,7 @@ fn put_more(
     }
 }
 
-// Writes the literals of the derived goal: those before the selected one; the clause's body, from place `body` on; and those after the
-// selected one.
+// Writes the literals of the derived goal: those before the selected one; those after it; and the clause's body, from place `body` on.
 fn put_literals(
     written: Put,
     cells: &[u16],
@@ -92,8 +91,8 @@ fn put_literals(
         call.s,
         draft,
     );
-    let middle = put_more(before, cells, symbols, table, n, body, cells.len(), draft);
-    put_more(middle, cells, symbols, table, n, call.e, call.len, draft)
+    let after = put_more(before, cells, symbols, table, n, call.e, call.len, draft);
+    put_more(after, cells, symbols, table, n, body, cells.len(), draft)
 }
 
 // How many cells are written from place 2 on.

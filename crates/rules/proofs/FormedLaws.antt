@@ -15,7 +15,7 @@ use Rattle.rules.specs.Syntax.{Symbol, functor, predicate, Literal, pos,
 use Rattle.rules.specs.Cells.{function, positive, negative, symbolCell, negatedCell, variableCell, readCell}
 use Rattle.rules.specs.Goals.{goalWords, renumber, appearing, position}
 use Rattle.rules.specs.Unification.{Substitution, done, bind, applys, Unification, fails, spent, solved, tick, bound, eliminate, unifyFront, unifyStep, unifyRound, unifyWithin, unify}
-use Rattle.rules.specs.Resolution.{clausesAbout, fresh, resolved, resolvent, keepSome, collect, resolvents, anyOversized}
+use Rattle.rules.specs.Resolution.{clausesAbout, fresh, place, resolved, resolvent, keepSome, collect, resolvents, anyOversized}
 use Rattle.rules.specs.WellFormed.{All, WfTerm, WfTerms, WfLiteral, WfLiterals, InOrder, clauseLiterals, WfClause, WfGoal}
 use Rattle.rules.proofs.ListLaws.{all-append, all-split, all-weaken, all-both}
 use Rattle.rules.proofs.TermLaws.{subs-count, applys-count}
@@ -254,7 +254,7 @@ module _ (S : List Symbol) where
       → (c : Clause) → WfLiterals S (clauseLiterals c) → Perhaps Derived (resolvent N ans before ts after c)
   unfolding resolvent
   resolvent-derived N ans before p ts after wa wl c wc =
-      resolved-derived (record { answers = ans; literals = before ++ (body ++ after) }) (record { answers = wa; literals = literals })
+      resolved-derived (record { answers = ans; literals = place before body after }) (record { answers = wa; literals = literals })
       (unify ts (fresh N (c .arguments))) (unify-wf ts (fresh N (c .arguments)) (parts .1 .0 .1) (renames-wf (λ v. N + v) (c .arguments) (wc .0 .1)))
     where
       body : List Literal
@@ -266,8 +266,8 @@ module _ (S : List Symbol) where
       parts : WfLiterals S before × WfLiterals S (pos p ts ∷ after)
       parts = all-split (WfLiteral S) before (pos p ts ∷ after) wl
 
-      literals : WfLiterals S (before ++ (body ++ after))
-      literals = all-append (WfLiteral S) before (body ++ after) (parts .0) (all-append (WfLiteral S) body after body-wf (parts .1 .1))
+      literals : WfLiterals S (place before body after)
+      literals = all-append (WfLiteral S) before (after ++ body) (parts .0) (all-append (WfLiteral S) after body (parts .1 .1) body-wf)
 
   module _ (clauses : List Clause) (wf : All (WfClause S) clauses) (g : Goal) (h : Formed g) where
     module _ (before : List Literal) (p : ℕ) (ts : Terms) (after : List Literal) (e : g .literals ≡ before ++ (pos p ts ∷ after)) where

@@ -62,6 +62,14 @@ deckN =
     ∷ 0 ∷ 2 ∷ 4
     ∷ 0 ∷ 16385 ∷ 1 ∷ 16386 ∷ 2 ∷ []
 
+-- Clark's P(x) if Q(y) and R(y); Q(h(y)) if Q(y); R(g(y)). Symbols: a, h, g, P, Q, R.
+abbrev pub deckC : List ℕ
+deckC =
+    1 ∷ 6 ∷ 8 ∷ 3 ∷ 14 ∷ 14 ∷ 17 ∷ 31
+    ∷ 0 ∷ 1 ∷ 1 ∷ 257 ∷ 257 ∷ 257
+    ∷ 0 ∷ 6 ∷ 11
+    ∷ 3 ∷ 32768 ∷ 4 ∷ 32769 ∷ 5 ∷ 32769 ∷ 4 ∷ 1 ∷ 32768 ∷ 4 ∷ 32768 ∷ 5 ∷ 2 ∷ 32768 ∷ []
+
 -- p if not p: level 32 parks with mark 4, and each level above it with mark 2.
 -- r(y) has the answer f(x): the clause's variable is another than the query's.
 -- p(f(..)) with a child over 1,024 words and a sister that would be an answer: the goal itself is parked.
@@ -71,6 +79,7 @@ deckN =
 -- Two pending goals of 483 words, and a new level's goal of 483 words.
 -- not h(f(..)): the new level stops with "store" in its second step, and the goal is still pending.
 -- a if not b, b if not c, c: finished in 7 steps; a budget of 5 ends on the second level below.
+-- Clark's P(a): with the oldest literal first it fails in three steps. (The budget is small, so that a wrong order shows soon.)
 abbrev pub more : List Case
 more =
     case deckP (0 ∷ []) 100000 (shows finished 66 0 0 (undecided ∷ []))
@@ -83,6 +92,7 @@ more =
     ∷ record { deck = deckE; query = 16389 ∷ nested 340; budget = 9; answerRoom = 9; storeSize = 1024; expected = shows store 2 0 1 [] }
     ∷ case deckN (0 ∷ []) 7 (shows finished 7 1 0 [])
     ∷ case deckN (0 ∷ []) 5 (shows budget 5 0 1 [])
+    ∷ case deckC (3 ∷ 0 ∷ []) 100 (shows finished 3 0 0 [])
     ∷ []
 
 pub more-runs : map actual more ≡ map (λ c. c .expected) more

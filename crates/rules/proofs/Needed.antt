@@ -31,12 +31,12 @@ loops = record {
       ∷ [];
 }
 
--- The goal "p and q", and the goal derived from it, "r(x) and q".
+-- The goal "p and q", and the goal derived from it, "q and r(x)".
 abbrev both : Goal
 both = record { answers = nil; literals = pos 0 nil ∷ pos 2 nil ∷ [] }
 
 abbrev derived : Goal
-derived = record { answers = nil; literals = pos 1 (cons (var 0) nil) ∷ pos 2 nil ∷ [] }
+derived = record { answers = nil; literals = pos 2 nil ∷ pos 1 (cons (var 0) nil) ∷ [] }
 
 one-step : remaining (evaluate loops 0 1024 (both ∷ []) [] 1) ≡ unmarked (derived ∷ [])
 unfolding rules
@@ -131,8 +131,8 @@ module _ (R : Ind → Type 0) (R-prop : (u : Ind) → IsProp (R u)) (Q : Type 0)
   unfolding goalsValue
   from-back back h = ∥∥₁-map (back (rw one-step (after, tt)) .0 (λ v. node 0 inil) refl) (λ s. elim s [ inl f ↦ inl f | inr t ↦ elim t [ inl q ↦ inr q | inr b ↦ absurd b ] ])
     where
-      after : (ν : Filling) → evals ν nil ≡ inil → ∥ R (ν 0) ⊎ (Q ⊎ ⊥) ∥₁
-      after ν e = ∥∥₁-map (h (ν 0)) (λ s. elim s [ inl r ↦ inl r | inr q ↦ inr (inl q) ])
+      after : (ν : Filling) → evals ν nil ≡ inil → ∥ Q ⊎ (R (ν 0) ⊎ ⊥) ∥₁
+      after ν e = ∥∥₁-map (h (ν 0)) (λ s. elim s [ inl r ↦ inr (inl r) | inr q ↦ inl q ])
 
 -- THE PREMISE IS NEEDED
 abbrev Unconditional : Type 1

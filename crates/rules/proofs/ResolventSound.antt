@@ -27,9 +27,9 @@ pub place-holds :
     (I : Reading) (ν : Filling) (before body after : List Literal)
     → Holds I ν (place before body after) ↔ (Holds I ν before × Holds I ν body × Holds I ν after)
 place-holds I ν before body after =
-    let outer = holds-append I ν before (body ++ after) in
-    let inner = holds-append I ν body after in
-    (λ h. (outer .0 h .0, inner .0 (outer .0 h .1) .0, inner .0 (outer .0 h .1) .1), λ h. outer .1 (h .0, inner .1 (h .1, h .2)))
+    let outer = holds-append I ν before (after ++ body) in
+    let inner = holds-append I ν after body in
+    (λ h. (outer .0 h .0, inner .0 (outer .0 h .1) .1, inner .0 (outer .0 h .1) .0), λ h. outer .1 (h .0, inner .1 (h .2, h .1)))
 
 module _ (I : Reading) (choice : Inds) where
   abbrev pub CoversOption : Option Goal → Type 0

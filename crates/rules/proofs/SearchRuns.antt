@@ -46,7 +46,7 @@ abbrev pub deckM : List ℕ
 deckM = 1 ∷ 2 ∷ 8 ∷ 2 ∷ 10 ∷ 4 ∷ 12 ∷ 16 ∷ 256 ∷ 257 ∷ 0 ∷ 3 ∷ 0 ∷ 16385 ∷ 32768 ∷ 0 ∷ []
 
 -- Answers a, b, c: breadth-first would list c first; the derived goals come in deck order, the answers in order of listing.
--- not t(x), p, s: the body q stands in place of p.
+-- not t(x), p, s: the body q comes after s.
 -- not t(x), not q, p: "not q" is selected, neither the "not" with a variable nor the positive literal after it.
 -- One goal pending, then two parked in order of parking.
 -- "not r(a)" has held: the goal without it stays first, before "not r(b)".
@@ -57,7 +57,7 @@ deckM = 1 ∷ 2 ∷ 8 ∷ 2 ∷ 10 ∷ 4 ∷ 12 ∷ 16 ∷ 256 ∷ 257 ∷ 0 ∷
 abbrev pub searches : List Row
 searches =
     row (case deckA (3 ∷ 32768 ∷ []) 9 (shows finished 5 3 0 [])) (words (3 ∷ 1 ∷ 0 ∷ 3 ∷ 1 ∷ 1 ∷ 3 ∷ 1 ∷ 2 ∷ []) [])
-    ∷ row (case deckB (16387 ∷ 32768 ∷ 0 ∷ 2 ∷ []) 1 (shows budget 1 0 1 [])) (words [] (7 ∷ 1 ∷ 32768 ∷ 16387 ∷ 32768 ∷ 1 ∷ 2 ∷ []))
+    ∷ row (case deckB (16387 ∷ 32768 ∷ 0 ∷ 2 ∷ []) 1 (shows budget 1 0 1 [])) (words [] (7 ∷ 1 ∷ 32768 ∷ 16387 ∷ 32768 ∷ 2 ∷ 1 ∷ []))
     ∷ row (case deckB (16387 ∷ 32768 ∷ 16385 ∷ 0 ∷ []) 2 (shows budget 2 0 1 [])) (words [] (6 ∷ 1 ∷ 32768 ∷ 16387 ∷ 32768 ∷ 0 ∷ []))
     ∷ row (case deckF (0 ∷ []) 3 (shows budget 3 0 1 (floundered ∷ floundered ∷ []))) (words [] (3 ∷ 0 ∷ 0 ∷ 4100 ∷ 0 ∷ 16385 ∷ 32768 ∷ 4100 ∷ 0 ∷ 16386 ∷ 32768 ∷ []))
     ∷ row (case deckH (2 ∷ 32768 ∷ []) 4 (shows budget 4 0 2 [])) (words [] (3 ∷ 1 ∷ 0 ∷ 5 ∷ 1 ∷ 1 ∷ 16388 ∷ 1 ∷ []))

@@ -57,7 +57,7 @@ bounds =
     row (small deckC (2 ∷ nested 339) 9 0 (shows finished 2 0 0 [])) (words [] [])
     ∷ row (small deckC (4 ∷ nested 339) 9 0 (shows finished 1 0 0 (oversized ∷ []))) (words [] (12631 ∷ 0 ∷ 4 ∷ nested 339))
     ∷ row (small deckT (2 ∷ (nested 440 ++ replicate 44 5)) 1 0 (shows budget 1 0 3 []))
-    (words [] ((46 ∷ 0 ∷ replicate 44 5) ++ ((488 ∷ 0 ∷ 3 ∷ (nested 440 ++ replicate 44 5)) ++ (490 ∷ 0 ∷ 4 ∷ (nested 440 ++ (0 ∷ 0 ∷ replicate 44 5))))))
+    (words [] ((46 ∷ 0 ∷ replicate 44 5) ++ ((488 ∷ 0 ∷ (replicate 44 5 ++ (3 ∷ nested 440))) ++ (490 ∷ 0 ∷ (replicate 44 5 ++ (4 ∷ (nested 440 ++ (0 ∷ 0 ∷ []))))))))
     ∷ row (small deckT (2 ∷ (nested 439 ++ replicate 45 5)) 1 0 (shows store 0 0 1 [])) (words [] (488 ∷ 0 ∷ 2 ∷ (nested 439 ++ replicate 45 5)))
     ∷ row (small deckT (2 ∷ (nested 439 ++ replicate 45 5)) 0 0 (shows budget 0 0 1 [])) (words [] (488 ∷ 0 ∷ 2 ∷ (nested 439 ++ replicate 45 5)))
     ∷ row (small deckT (16386 ∷ nested 336) 9 0 (shows finished 3 0 0 [])) (words [] [])

@@ -37,9 +37,9 @@ clausesAbout p (c ∷ cs) = elim (eqb (c .predicate) p) [ true ↦ c ∷ clauses
 abbrev pub fresh : ℕ → Terms → Terms
 fresh N ts = renames (λ v. N + v) ts
 
--- The clause's body goes in place of the literal.
+-- The clause's body comes after the remaining literals (U3), so that the oldest literal is selected first.
 abbrev pub place : List Literal → List Literal → List Literal → List Literal
-place before body after = before ++ (body ++ after)
+place before body after = before ++ (after ++ body)
 
 -- All substituted, and renumbered; nothing where the head does not match.
 unfoldable pub resolved : Goal → Unification → Option Goal

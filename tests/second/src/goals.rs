@@ -108,13 +108,13 @@ impl<'a> Resolvent<'a> {
         })
     }
 
-    /// The literals in order, each with its variables' shift.
+    /// The literals in order, the clause's body after the remaining ones (U3), each with its variables' shift.
     fn literals(&self) -> impl Iterator<Item = (&'a Literal, usize)> {
         let (goal, at, shift) = (self.goal, self.at, self.goal.variables);
         let before = goal.literals[..at].iter().map(|one| (one, 0));
-        let body = self.clause.body.iter().map(move |one| (one, shift));
         let after = goal.literals[at + 1..].iter().map(|one| (one, 0));
-        before.chain(body).chain(after)
+        let body = self.clause.body.iter().map(move |one| (one, shift));
+        before.chain(after).chain(body)
     }
 
     /// Words when written out; past the limit only that it is past.

@@ -1,4 +1,4 @@
-//! The runs that document 01 states.
+//! The runs that document 01 states, as the requests of document 02 have changed them.
 
 use second::vectors::{result, Expected};
 use second::world::World;
@@ -89,7 +89,7 @@ fn growing_argument() {
 fn clarks_example() {
     let clauses: [&[u16]; 3] = [&[0, X, 1, Y, 2, Y], &[1, 3, X, 1, X], &[2, 4, X]];
     let deck = deck(&[257, 257, 257, 1, 1, 0], &clauses);
-    expect(&deck, &[0, 5], 100_000, "finished 1020 0 0 1", &[3]);
+    expect(&deck, &[0, 5], 100_000, "finished 3 0 0 0", &[]);
 }
 
 fn bytes(words: &[u16]) -> Vec<u8> {

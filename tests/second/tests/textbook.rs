@@ -99,8 +99,8 @@ fn derived(world: &World) -> Vec<Vec<u16>> {
     for clause in &world.clauses {
         let clause = read_all(world, clause, variables);
         let mut goal: Vec<Term> = (0..variables).map(Term::Variable).collect();
-        goal.extend(clause[1..].iter().cloned());
         goal.extend(literals[1..].iter().cloned());
+        goal.extend(clause[1..].iter().cloned());
         let equations = vec![(literals[0].clone(), clause[0].clone())];
         goals.extend(matched(equations, goal).map(|goal| goal_words(&goal, variables)));
     }

@@ -14,7 +14,7 @@ pub fn deck_l() -> Vec<Case> {
     ]
 }
 
-/// One answer each: variables, nested terms, many terms, long numbers.
+/// One answer each, or none: variables, nested terms, many terms, long numbers.
 pub fn terms() -> Vec<Case> {
     // f/2, a; p(x, f(a, f(y, x)), y).
     let nested = deck(&[2, 0, 259], &[&[2, X, 0, 1, 0, Y, X, Y]]);
@@ -22,12 +22,15 @@ pub fn terms() -> Vec<Case> {
     let pair = deck(&[258, 3, 0], &[&[0, X, Y]]);
     // q(x, f(x)).
     let cyclic = deck(&[258, 1], &[&[0, X, 1, X]]);
+    // Clark's: P(x) if Q(y) and R(y); Q(h(y)) if Q(y); R(g(y)).
+    let clark = deck(&[257, 257, 257, 1, 1, 0], &[&[0, X, 1, Y, 2, Y], &[1, 3, X, 1, X], &[2, 4, X]]);
     vec![
         case("nested terms", &nested, &[2, X, Y, Z], "all\nfinished 2 1 0 0\nv0 s0(s1,s0(v1,v0)) v1\n"),
         case("two variables", &pair, &[0, X, Y], "all\nfinished 2 1 0 0\nv0 v1\n"),
         case("a variable asked twice", &pair, &[0, X, X], "all\nfinished 2 1 0 0\nv0\n"),
         case("a term that is asked with", &pair, &[0, X, 1, X, Y, 2], "all\nfinished 2 1 0 0\nv0 v1\n"),
         case("x is f of x", &cyclic, &[0, X, X], "no\nfinished 1 0 0 0\n"),
+        case("Clark's example", &clark, &[0, 5], "no\nfinished 3 0 0 0\n"),
         fifteen_arguments(),
         many_variables(),
         deep_term(),

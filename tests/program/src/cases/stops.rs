@@ -1,7 +1,7 @@
 //! Runs that leave goals open: parked ones, and each stop.
 
 use super::{case, Case};
-use crate::inputs::{deck, largest_deck, NOT, X, Y};
+use crate::inputs::{deck, largest_deck, NOT, X};
 
 /// Finished, with goals parked.
 pub fn finished_open() -> Vec<Case> {
@@ -12,15 +12,11 @@ pub fn finished_open() -> Vec<Case> {
     // P(x) if P(f(x)); and with P(a).
     let oversized = deck(&[257, 1, 0], &[&[0, X, 0, 1, X]]);
     let beside = deck(&[257, 1, 0], &[&[0, 2], &[0, X, 0, 1, X]]);
-    // Clark's: P(x) if Q(y) and R(y); Q(h(y)) if Q(y); R(g(y)).
-    let clauses: [&[u16]; 3] = [&[0, X, 1, Y, 2, Y], &[1, 3, X, 1, X], &[2, 4, X]];
-    let clark = deck(&[257, 257, 257, 1, 1, 0], &clauses);
     vec![
         case("an answer and a floundered goal", &floundered, &[1, X], "open\nfinished 3 1 0 1\ns0\n"),
         case("undecided, over a floundered goal", &undecided, &[0], "open\nfinished 4 0 0 1\n"),
         case("oversized", &oversized, &[0, 2], "open\nfinished 1021 0 0 1\n"),
         case("an answer and an oversized goal", &beside, &[0, 2], "open\nfinished 1022 1 0 1\ntrue\n"),
-        case("Clark's example", &clark, &[0, 5], "open\nfinished 1020 0 0 1\n"),
     ]
 }
 

@@ -9,20 +9,20 @@ use Rattle.resolvents.proofs.resolve.put_literals.Tie as tie
 put-more-requires : tie.Need-put-more-requires
 put-more-requires c κs =
     let start = c .before .before .before .before .before in
-    let (good, (onward, (bounds, (ranges, long)))) = start .pre in (good, (onward, (record { inside = omega (arith, bounds .inside, ranges .selected); wide = bounds .wide }, (ranges .answered, long))))
+    let (good, (onward, (bounds, (ranges, long)))) = start .pre in (good, (onward, (record { inside = omega (arith, bounds .inside, ranges .selected); wide = bounds .wide }, (omega (arith, ranges .answered, ranges .clause, ranges .rest), long))))
 
 put-more-requires-2 : tie.Need-put-more-requires-2
 put-more-requires-2 c κs =
     let start = c .before .before .before .before .before .before .before .before .before in
     let put-more = c .before .before .before .put-more in
-    let (good, (onward, (bounds, (ranges, long)))) = start .pre in (good, (put-more .ensures .onward, (record { inside = omega (arith, bounds .inside); wide = omega (arith, bounds .wide, names-many (start .args .draft .now) (put-more .last .1 .1 .1 .1 .1 .1 .1 .0) long (put-more .kept .1 .1 .1 .1 .1 .1 .1 .0)) }, (omega (arith, ranges .clause, ranges .rest), put-more .kept .1 .1 .1 .1 .1 .1 .1 .0 ∙ long))))
+    let (good, (onward, (bounds, (ranges, long)))) = start .pre in (good, (put-more .ensures .onward, (record { inside = omega (arith, bounds .inside, ranges .selected); wide = omega (arith, bounds .wide, names-many (start .args .draft .now) (put-more .last .1 .1 .1 .1 .1 .1 .1 .0) long (put-more .kept .1 .1 .1 .1 .1 .1 .1 .0)) }, (omega (arith, ranges .answered, ranges .clause, ranges .rest), put-more .kept .1 .1 .1 .1 .1 .1 .1 .0 ∙ long))))
 
 put-more-requires-3 : tie.Need-put-more-requires-3
 put-more-requires-3 c κs =
     let start = c .before .before .before .before .before .before .before .before .before .before .before .before .before in
     let put-more = c .before .before .before .before .before .before .before .put-more in
     let put-more2 = c .before .before .before .put-more2 in
-    let (good, (onward, (bounds, (ranges, long)))) = start .pre in (good, (put-more2 .ensures .onward, (record { inside = omega (arith, bounds .inside); wide = omega (arith, bounds .wide, names-many (start .args .draft .now) (put-more2 .last .1 .1 .1 .1 .1 .1 .1 .0) long (put-more2 .kept .1 .1 .1 .1 .1 .1 .1 .0 ∙ put-more .kept .1 .1 .1 .1 .1 .1 .1 .0)) }, (omega (arith, ranges .clause, ranges .rest), put-more2 .kept .1 .1 .1 .1 .1 .1 .1 .0 ∙ put-more .kept .1 .1 .1 .1 .1 .1 .1 .0 ∙ long))))
+    let (good, (onward, (bounds, (ranges, long)))) = start .pre in (good, (put-more2 .ensures .onward, (record { inside = omega (arith, bounds .inside, ranges .selected); wide = omega (arith, bounds .wide, names-many (start .args .draft .now) (put-more2 .last .1 .1 .1 .1 .1 .1 .1 .0) long (put-more2 .kept .1 .1 .1 .1 .1 .1 .1 .0 ∙ put-more .kept .1 .1 .1 .1 .1 .1 .1 .0)) }, (omega (arith, ranges .answered, ranges .clause, ranges .rest), put-more2 .kept .1 .1 .1 .1 .1 .1 .1 .0 ∙ put-more .kept .1 .1 .1 .1 .1 .1 .1 .0 ∙ long))))
 
 same-length : tie.Need-same-length
 same-length c =
