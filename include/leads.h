@@ -1,14 +1,16 @@
 /* The lead finder: Clark's query evaluation with negation as failure, over lent slices of 16-bit words.
  *
- * Each call returns 0, or the number of a refusal, with nothing touched:
+ * Each call returns 0, or the number of a refusal, with nothing touched (leads_read_text has two exceptions):
  *   1  the deck's header or length      6  the query has over 500 cells
  *   2  a symbol word                    7  the query is not literals, or misnumbered
  *   3  the clause starts                8  the store has under 1,024 or over 65,535 words
  *   4  a clause over 256 cells          9  the scratch has under 8,192 words
  *   5  a clause that is not a head and literals, or whose variables are misnumbered
- * Checks go in number order, each over everything before the next.
+ *  10  a text that cannot be read     11  a result longer than the lent list, or a deck that was read and has over 16,384 words
+ * Checks go in number order (reading a text: 10, 11, then 1 to 5), each over everything before the next.
  *
- * A length is a number of words. A pointer may be anything where its length is 0, but not null. The slices must not overlap.
+ * A length is a number of words, or of bytes for text. A pointer may be anything where its length is 0, but not null; nor may a pointer to
+ * a result be null. The slices must not overlap.
  */
 #ifndef LEADS_H
 #define LEADS_H
@@ -39,6 +41,18 @@ uint32_t leads_run(const uint16_t *deck, size_t deck_words, const uint16_t *quer
                    uint16_t *answers, size_t answer_words, uint16_t *store, size_t store_words, uint16_t *scratch,
                    size_t scratch_words, uint32_t *stop, uint32_t *steps, uint64_t *answer_count, uint32_t *pending,
                    uint32_t *parked);
+
+/* Reads a text as a deck: refusal 10 of the text, then 11 where the words do not fit in the list or are over 16,384, then 1 to 5 of the
+ * deck. Where it returns 0, the list begins with the deck, of deck_words words; the words after it are untouched. place is
+ * written on 10 only: the first byte of the token or name at fault, counted from 0, or text_bytes where the text ends too early. After
+ * 1 to 5 the list is free. A text with over 4,096 declarations, which is never a deck, takes longer than others. */
+uint32_t leads_read_text(const uint8_t *text, size_t text_bytes, uint16_t *deck, size_t deck_room, size_t *deck_words,
+                         size_t *place);
+
+/* Writes a deck as text: refusals 1 to 5, then 11 where the text is longer than the list. Where it returns 0, the list begins with the
+ * text, of text_bytes bytes; the bytes after it are untouched. A line for each symbol, `fn s0/0.` or `pr s4/1.`, then one for each clause,
+ * as `s4(_0) :- s2(_0), ~s3(_0).`; each ends in byte 10. */
+uint32_t leads_write_text(const uint16_t *deck, size_t deck_words, uint8_t *text, size_t text_room, size_t *text_bytes);
 
 #ifdef __cplusplus
 }

@@ -1,5 +1,6 @@
 //! `bench`: steps and clauses tried per second. Buffers are cleared once, before the first run of a deck.
-//! `bench deck NAME FILE`: writes the words of the deck `leads` or `chain` to a file.
+//! `bench deck NAME FILE`: writes the words of the deck `leads`, `chain` or `largest` to a file; `bench text NAME FILE`: its text.
+//! `bench read FILE`: the time of reading a text, in nanoseconds.
 
 use second::judge::{Lent, Report};
 use std::time::{Duration, Instant};
@@ -59,6 +60,58 @@ fn doubling(n: u16) -> (Vec<u16>, Vec<u16>) {
     (deck(vec![2, 256 + n], &[head]), query)
 }
 
+/// Links between 2,000 stations, what is reached and what is not, in just 16,384 words.
+fn largest() -> (Vec<u16>, Vec<u16>) {
+    let stations = 2000;
+    let (link, reach, end, open, cut) = (stations, stations + 1, stations + 2, stations + 3, stations + 4);
+    let (x, y, z) = (VARIABLE, VARIABLE + 1, VARIABLE + 2);
+    let mut symbols = vec![0; stations as usize];
+    symbols.extend([258, 258, 257, 256, 257]);
+    let mut clauses = vec![
+        vec![reach, x, y, link, x, y],
+        vec![reach, x, y, link, x, z, reach, z, y],
+        vec![cut, x, end, x, NOT + reach, 0, x],
+        vec![end, 0],
+        vec![open],
+    ];
+    let words = |clauses: &[Vec<u16>]| deck(symbols.clone(), clauses).len();
+    for at in (0..stations).cycle() {
+        let left = 16_384 - words(&clauses);
+        match left {
+            0 => break,
+            2 | 5 => clauses.push(vec![open]),
+            3 => clauses.push(vec![end, at]),
+            _ => clauses.push(vec![link, at, (7 * at + 1) % stations]),
+        }
+    }
+    (deck(symbols.clone(), &clauses), vec![cut, VARIABLE])
+}
+
+fn by_name(name: &str) -> Vec<u16> {
+    match name {
+        "chain" => chain(100).0,
+        "largest" => largest().0,
+        _ => leads(2000).0,
+    }
+}
+
+/// The time of one reading, the least of ten stretches.
+fn reading(text: &[u8]) -> Duration {
+    let mut lent = vec![0; 16_384];
+    let (mut words, mut place) = (0, 0);
+    let mut stretch = || {
+        let start = Instant::now();
+        let mut times = 0;
+        while times < 3 || start.elapsed() < Duration::from_millis(50) {
+            let refused = compare::read_text(text, &mut lent, &mut words, &mut place);
+            assert_eq!(refused, 0, "the text is read");
+            times += 1;
+        }
+        start.elapsed() / times
+    };
+    (0..10).map(|_| stretch()).min().expect("ten")
+}
+
 struct Timed {
     report: Report,
     each: Duration,
@@ -101,12 +154,20 @@ fn show(name: &str, (deck, query): &(Vec<u16>, Vec<u16>)) {
 
 fn main() {
     let arguments: Vec<String> = std::env::args().skip(1).collect();
-    if let [_, name, path] = arguments.as_slice() {
-        let (words, _) = if name == "chain" { chain(100) } else { leads(2000) };
-        let bytes: Vec<u8> = words.iter().flat_map(|w| w.to_le_bytes()).collect();
-        std::fs::write(path, bytes).expect("the file is written");
-        return;
+    let arguments: Vec<&str> = arguments.iter().map(String::as_str).collect();
+    let put = |path: &str, bytes: Vec<u8>| std::fs::write(path, bytes).expect("the file is written");
+    match arguments[..] {
+        ["deck", name, path] => put(path, by_name(name).iter().flat_map(|w| w.to_le_bytes()).collect()),
+        ["text", name, path] => put(path, second::text::write(&by_name(name), usize::MAX).expect("a deck")),
+        ["read", path] => {
+            let text = std::fs::read(path).expect("a text");
+            println!("{}", reading(&text).as_nanos());
+        }
+        _ => runs(),
     }
+}
+
+fn runs() {
     for ends in [250, 500, 1000, 2000] {
         show(&format!("leads {ends}"), &leads(ends));
     }

@@ -13,7 +13,7 @@ mod starts;
 mod symbols;
 mod terms;
 
-// The nine refusals, in the order of their numbers.
+// The refusals, in the order of their numbers.
 pub enum Refusal {
     Header,
     Symbol,
@@ -24,6 +24,8 @@ pub enum Refusal {
     Query,
     Store,
     Scratch,
+    Text,
+    Room,
 }
 
 pub enum Checked {
@@ -54,6 +56,8 @@ fn refusal_number(why: Refusal) -> u32
         Refusal::Query => 7,
         Refusal::Store => 8,
         Refusal::Scratch => 9,
+        Refusal::Text => 10,
+        Refusal::Room => 11,
     }
 }
 

@@ -20,7 +20,7 @@ use Rattle.deck.specs.declared.Refusal as declared
 use Rattle.deck.specs.declared.Checked as declared-checks
 use Rattle.deck.specs.declared.Checked.the-variants as answer
 use Rattle.deck.specs.Answers.{numberOf, refusalFor}
-use Rattle.deck.proofs.RefusalLaws.{number-positive, number-injective, refused-number}
+use Rattle.deck.proofs.RefusalLaws.{number-accepts, number-refuses}
 use Rattle.report.specs.Reports.{stopOf as stopOf′}
 use Rattle.report.specs.declared.Report.{Report}
 use Rattle.matching.specs.Bindings as bindings
@@ -31,16 +31,6 @@ use Rattle.clauses.specs.Clauses.{Blank}
 use Rattle.top_level.specs.Top.{Queries, Topped}
 use Rattle.evaluation.specs.Results.{checkSizes, firstRefusal, resultOf, slices}
 use Rattle.evaluation.specs.declared.Ran.the-variants as kind
-
--- THE NUMBERS OF REFUSALS determine them.
-module _ {A : Type 0} where
-  pub number-accepts : (c : Checked A) → 0 ≡ checkedNumber c → (a : A) × (c ≡ accepted a)
-  number-accepts (refused n) e = absurd (omega (arith, number-positive n))
-  number-accepts (accepted a) e = (a, refl)
-
-  pub number-refuses : (why : declared.Refusal) (c : Checked A) → numberOf (answer.Refused why) ≡ checkedNumber c → c ≡ refused (refusalFor why)
-  number-refuses why (refused n) e = ap refused (number-injective n (refusalFor why) (sym e))
-  number-refuses why (accepted a) e = absurd (refused-number why e)
 
 -- CHECKS ONE AFTER THE OTHER
 module _ {A B : Type 0} where

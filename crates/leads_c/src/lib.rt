@@ -1,11 +1,15 @@
-// The engine for C and Rust (include/leads.h). Each call returns 0, or the refusal's number with nothing touched.
+// The engine for C and Rust (include/leads.h). Each call returns 0, or the refusal's number with nothing touched; reading a text tells the place of 10, and leaves the lent list free after 1 to 5.
 ghost use mathlib.Core.Path.{_≡_};
 ghost use Rattle.rules.specs.Refusals.{checkedNumber};
 ghost use Rattle.rules.specs.Decks.{openDeck, checkQuery};
 ghost use Rattle.evaluation.specs.Results.{slices};
 ghost use Rattle.leads_c.specs.Calls.{Called, numbers};
+ghost use Rattle.leads_c.specs.TextCalls.{ReadCalled, WriteCalled};
 use deck::Checked;
+use deck::Refusal;
 use evaluation::Ran;
+use reading::Read;
+use writing::Written;
 
 #[no_mangle]
 pub extern "C" fn leads_open(deck: &[u16]) -> u32
@@ -46,6 +50,41 @@ pub extern "C" fn leads_run(
             *answer_count = report.answers;
             *pending = report.pending;
             *parked = report.parked;
+            0
+        }
+    }
+}
+
+#[no_mangle]
+pub extern "C" fn leads_read_text(
+    text: &[u8],
+    deck: &mut [u16],
+    deck_words: &mut usize,
+    place: &mut usize,
+) -> u32
+    ensures { λ r. ⌜ ReadCalled (now (text .entry)) (now (deck .entry)) (now («deck_words» .entry)) (now (place .entry)) r (now (deck .exit)) (now («deck_words» .exit)) (now (place .exit)) ⌝ }
+{
+    match reading::read_text(text, deck) {
+        Read::Words(n) => {
+            *deck_words = n;
+            0
+        }
+        Read::Unreadable(at) => {
+            *place = at;
+            deck::number(Checked::Refused(Refusal::Text))
+        }
+        Read::Refused(why) => deck::number(Checked::Refused(why)),
+    }
+}
+
+#[no_mangle]
+pub extern "C" fn leads_write_text(deck: &[u16], text: &mut [u8], text_bytes: &mut usize) -> u32
+    ensures { λ r. ⌜ WriteCalled (now (deck .entry)) (now (text .entry)) (now («text_bytes» .entry)) r (now (text .exit)) (now («text_bytes» .exit)) ⌝ }
+{
+    match writing::write_text(deck, text) {
+        Written::Refused(why) => deck::number(Checked::Refused(why)),
+        Written::Bytes(n) => {
+            *text_bytes = n;
             0
         }
     }

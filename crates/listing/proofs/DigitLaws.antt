@@ -86,11 +86,11 @@ weights-positive (suc k) = (weight-positive k, weights-positive k)
 last-apart : (k n : ℕ) → digitsAt (weightsOf (suc k)) n ≡ digitsAt (scale 10 (weightsOf k)) n ++ ((48 + n % 10) ∷ [])
 last-apart k n = ap (λ ws. digitsAt ws n) (weights-last k) ∙ digitsAt-append (scale 10 (weightsOf k)) (1 ∷ []) n ∙ ap (digitsAt (scale 10 (weightsOf k)) n ++_) (ap (_++ []) (last-digit n))
 
-one-digit : (n more : ℕ) (rest : List ℕ) → n < 10 → digits (suc more) n rest ≡ (48 + n) ∷ rest
+pub one-digit : (n more : ℕ) (rest : List ℕ) → n < 10 → digits (suc more) n rest ≡ (48 + n) ∷ rest
 unfolding digits
 one-digit n more rest h = rw (lt-ltb n 10 h, digits)
 
-more-digits : (n more : ℕ) (rest : List ℕ) → 10 ≤ n → digits (suc more) n rest ≡ digits more (n / 10) ((48 + n % 10) ∷ rest)
+pub more-digits : (n more : ℕ) (rest : List ℕ) → 10 ≤ n → digits (suc more) n rest ≡ digits more (n / 10) ((48 + n % 10) ∷ rest)
 unfolding digits
 more-digits n more rest h = rw (le-ltb n 10 h, digits)
 

@@ -6,3 +6,4 @@ pub mod StandLaws
 pub mod LineLaws
 pub mod AnswerLaws
 pub mod RunLaws
+pub mod PrintedLaws

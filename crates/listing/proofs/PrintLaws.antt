@@ -12,25 +12,70 @@ use Rattle.rules.specs.Listing.{decimal, printTerm, printArguments, printMore, 
 use Rattle.rules.specs.Goals.{wordsOf}
 use Rattle.rules.proofs.GoalLaws.{goal-words, goal-small}
 use Rattle.rules.proofs.CellLaws.{Small, after-term, written-as}
-use Rattle.listing.specs.Standing.{printAfter}
+use Rattle.listing.specs.Standing.{showTerm, showArguments, showMore, showAfter}
 use Rattle.listing.proofs.DigitLaws.{decimal-append, decimal-length}
 
 -- What follows is put behind.
+module _ (sign : ℕ) where
+  mutual
+    pub show-append : (t : Term) (xs rest : List ℕ) → showTerm sign t (xs ++ rest) ≡ showTerm sign t xs ++ rest
+    show-append (var v) xs rest = ap {B = List ℕ} (λ x. sign ∷ x) (decimal-append v xs rest)
+    show-append (app f ts) xs rest =
+        ap {B = List ℕ} (λ x. 115 ∷ x) (ap (decimal f) (arguments-append ts xs rest) ∙ decimal-append f (showArguments sign ts xs) rest)
+
+    arguments-append : (ts : Terms) (xs rest : List ℕ) → showArguments sign ts (xs ++ rest) ≡ showArguments sign ts xs ++ rest
+    arguments-append nil xs rest = refl
+    arguments-append (cons t ts) xs rest =
+        ap {B = List ℕ} (λ x. 40 ∷ x) (ap (showTerm sign t) (more-append ts (41 ∷ xs) rest) ∙ show-append t (showMore sign ts (41 ∷ xs)) rest)
+
+    more-append : (ts : Terms) (xs rest : List ℕ) → showMore sign ts (xs ++ rest) ≡ showMore sign ts xs ++ rest
+    more-append nil xs rest = refl
+    more-append (cons t ts) xs rest =
+        ap {B = List ℕ} (λ x. 44 ∷ x) (ap (showTerm sign t) (more-append ts xs rest) ∙ show-append t (showMore sign ts xs) rest)
+
+  -- Terms after a mark, and arguments.
+  after-comma : (ts : Terms) → showMore sign ts [] ≡ showAfter 44 sign ts
+  after-comma nil = refl
+  after-comma (cons t ts) = refl
+
+  pub after-mark : (mark : ℕ) (t : Term) (ts : Terms) → showAfter mark sign (cons t ts) ≡ mark ∷ (showTerm sign t [] ++ showAfter 44 sign ts)
+  after-mark mark t ts = ap {B = List ℕ} (λ x. mark ∷ x) (show-append t [] (showMore sign ts []) ∙ ap (showTerm sign t [] ++_) (after-comma ts))
+
+  in-brackets : (ts : Terms) → (count ts ≡ 0 → ⊥) → showArguments sign ts [] ≡ showAfter 40 sign ts ++ (41 ∷ [])
+  in-brackets nil h = absurd (h refl)
+  in-brackets (cons t ts) h =
+      ap {B = List ℕ} (λ x. 40 ∷ x) (ap (showTerm sign t) (more-append ts [] (41 ∷ [])) ∙ show-append t (showMore sign ts []) (41 ∷ []))
+
+  -- A symbol without arguments, and with them.
+  pub no-arguments : (f : ℕ) (ts : Terms) → count ts ≡ 0 → (showTerm sign (app f ts) [] ≡ 115 ∷ decimal f []) × (sizes ts ≡ 0)
+  no-arguments f nil e = (refl, refl)
+  no-arguments f (cons t ts) e = absurd (omega arith)
+
+  pub name-apart : (f : ℕ) (ts : Terms) → showTerm sign (app f ts) [] ≡ (115 ∷ decimal f []) ++ showArguments sign ts []
+  name-apart f ts = ap {B = List ℕ} (λ x. 115 ∷ x) (decimal-append f [] (showArguments sign ts []))
+
+  pub applied-parts : (f : ℕ) (ts : Terms) → (count ts ≡ 0 → ⊥) → showTerm sign (app f ts) [] ≡ (115 ∷ decimal f []) ++ (showAfter 40 sign ts ++ (41 ∷ []))
+  applied-parts f ts h = name-apart f ts ∙ ap ((115 ∷ decimal f []) ++_) (in-brackets ts h)
+
+-- The listing's terms.
 mutual
-  term-append : (t : Term) (xs rest : List ℕ) → printTerm t (xs ++ rest) ≡ printTerm t xs ++ rest
-  term-append (var v) xs rest = ap {B = List ℕ} (λ x. 118 ∷ x) (decimal-append v xs rest)
-  term-append (app f ts) xs rest =
-      ap {B = List ℕ} (λ x. 115 ∷ x) (ap (decimal f) (arguments-append ts xs rest) ∙ decimal-append f (printArguments ts xs) rest)
+  shown-printed : (t : Term) (rest : List ℕ) → showTerm 118 t rest ≡ printTerm t rest
+  shown-printed (var v) rest = refl
+  shown-printed (app f ts) rest = ap {B = List ℕ} (λ x. 115 ∷ decimal f x) (arguments-printed ts rest)
 
-  arguments-append : (ts : Terms) (xs rest : List ℕ) → printArguments ts (xs ++ rest) ≡ printArguments ts xs ++ rest
-  arguments-append nil xs rest = refl
-  arguments-append (cons t ts) xs rest =
-      ap {B = List ℕ} (λ x. 40 ∷ x) (ap (printTerm t) (more-append ts (41 ∷ xs) rest) ∙ term-append t (printMore ts (41 ∷ xs)) rest)
+  arguments-printed : (ts : Terms) (rest : List ℕ) → showArguments 118 ts rest ≡ printArguments ts rest
+  arguments-printed nil rest = refl
+  arguments-printed (cons t ts) rest = ap {B = List ℕ} (λ x. 40 ∷ x) (ap (showTerm 118 t) (more-printed ts (41 ∷ rest)) ∙ shown-printed t (printMore ts (41 ∷ rest)))
 
-  more-append : (ts : Terms) (xs rest : List ℕ) → printMore ts (xs ++ rest) ≡ printMore ts xs ++ rest
-  more-append nil xs rest = refl
-  more-append (cons t ts) xs rest =
-      ap {B = List ℕ} (λ x. 44 ∷ x) (ap (printTerm t) (more-append ts xs rest) ∙ term-append t (printMore ts xs) rest)
+  more-printed : (ts : Terms) (rest : List ℕ) → showMore 118 ts rest ≡ printMore ts rest
+  more-printed nil rest = refl
+  more-printed (cons t ts) rest = ap {B = List ℕ} (λ x. 44 ∷ x) (ap (showTerm 118 t) (more-printed ts rest) ∙ shown-printed t (printMore ts rest))
+
+term-append : (t : Term) (xs rest : List ℕ) → printTerm t (xs ++ rest) ≡ printTerm t xs ++ rest
+term-append t xs rest = sym (shown-printed t (xs ++ rest)) ∙ show-append 118 t xs rest ∙ ap (_++ rest) (shown-printed t xs)
+
+first-shown : (t : Term) (rest : List ℕ) → printTerm t rest ≡ showTerm 118 t [] ++ rest
+first-shown t rest = sym (shown-printed t rest) ∙ show-append 118 t [] rest
 
 spaced-append : (ts : Terms) (xs rest : List ℕ) → printSpaced ts (xs ++ rest) ≡ printSpaced ts xs ++ rest
 spaced-append nil xs rest = refl
@@ -38,12 +83,12 @@ spaced-append (cons t ts) xs rest =
     ap {B = List ℕ} (λ x. 32 ∷ x) (ap (printTerm t) (spaced-append ts xs rest) ∙ term-append t (printSpaced ts xs) rest)
 
 -- A term after a space; an answer's line.
-pub after-space : (t : Term) (ts : Terms) → printSpaced (cons t ts) [] ≡ 32 ∷ (printTerm t [] ++ printSpaced ts [])
-after-space t ts = ap {B = List ℕ} (λ x. 32 ∷ x) (term-append t [] (printSpaced ts []))
+pub after-space : (t : Term) (ts : Terms) → printSpaced (cons t ts) [] ≡ 32 ∷ (showTerm 118 t [] ++ printSpaced ts [])
+after-space t ts = ap {B = List ℕ} (λ x. 32 ∷ x) (first-shown t (printSpaced ts []))
 
-pub line-parts : (t : Term) (ts : Terms) → printAnswer (cons t ts) (10 ∷ []) ≡ printTerm t [] ++ (printSpaced ts [] ++ (10 ∷ []))
+pub line-parts : (t : Term) (ts : Terms) → printAnswer (cons t ts) (10 ∷ []) ≡ showTerm 118 t [] ++ (printSpaced ts [] ++ (10 ∷ []))
 unfolding printAnswer
-line-parts t ts = ap (printTerm t) (spaced-append ts [] (10 ∷ [])) ∙ term-append t [] (printSpaced ts [] ++ (10 ∷ []))
+line-parts t ts = ap (printTerm t) (spaced-append ts [] (10 ∷ [])) ∙ first-shown t (printSpaced ts [] ++ (10 ∷ []))
 
 answer-append : (ts : Terms) (xs rest : List ℕ) → printAnswer ts (xs ++ rest) ≡ printAnswer ts xs ++ rest
 unfolding printAnswer
@@ -53,23 +98,6 @@ answer-append (cons t ts) xs rest = ap (printTerm t) (spaced-append ts xs rest) 
 pub answers-parts : (g : Goal) (gs : List Goal) → printAnswers (g ∷ gs) ≡ printAnswer (g .answers) (10 ∷ []) ++ printAnswers gs
 unfolding printAnswers
 answers-parts g gs = answer-append (g .answers) (10 ∷ []) (printAnswers gs)
-
--- Terms after a mark, and arguments.
-after-comma : (ts : Terms) → printMore ts [] ≡ printAfter 44 ts
-after-comma nil = refl
-after-comma (cons t ts) = refl
-
-pub after-mark : (mark : ℕ) (t : Term) (ts : Terms) → printAfter mark (cons t ts) ≡ mark ∷ (printTerm t [] ++ printAfter 44 ts)
-after-mark mark t ts = ap {B = List ℕ} (λ x. mark ∷ x) (term-append t [] (printMore ts []) ∙ ap (printTerm t [] ++_) (after-comma ts))
-
-pub no-arguments : (ts : Terms) → count ts ≡ 0 → (printArguments ts [] ≡ []) × (sizes ts ≡ 0)
-no-arguments nil e = (refl, refl)
-no-arguments (cons t ts) e = absurd (omega arith)
-
-pub in-brackets : (ts : Terms) → (count ts ≡ 0 → ⊥) → printArguments ts [] ≡ printAfter 40 ts ++ (41 ∷ [])
-in-brackets nil h = absurd (h refl)
-in-brackets (cons t ts) h =
-    ap {B = List ℕ} (λ x. 40 ∷ x) (ap (printTerm t) (more-append ts [] (41 ∷ [])) ∙ term-append t (printMore ts []) (41 ∷ []))
 
 -- A term takes at most 8 bytes a cell: a letter, five digits, its closing bracket and the byte in front of it.
 decimal-rest : (k n : ℕ) (rest : List ℕ) → length (decimal n []) ≤ k → length (decimal n rest) ≤ k + length rest

@@ -2,7 +2,7 @@
 use Prim.Native.Nat.{ℕ, suc, _+_, _-_, _≤_, _<_}
 use mathlib.Core.Path.{_≡_, refl, ap, sym, _∙_}
 use mathlib.Core.Option.{Option, none, some}
-use mathlib.Core.List.{List, [], _∷_, _++_}
+use mathlib.Core.List.{List, [], _∷_}
 use native.Mathlib.Omega.{arith}
 use native.Mathlib.Numerals.{add-one}
 use native.Mathlib.Decide.{decLt}
@@ -12,13 +12,12 @@ use Rattle.rules.specs.Terms.{Term, var, app, Terms, nil, cons, count, size, si
 use Rattle.rules.specs.Syntax.{Symbol, functor, predicate}
 use Rattle.rules.specs.Cells.{writeTerms, function, symbolCell, readCell}
 use Rattle.rules.specs.Decks.{readSymbol, readAll}
-use Rattle.rules.specs.Listing.{decimal, printTerm, printArguments}
+use Rattle.rules.specs.Listing.{decimal}
 use Rattle.rules.proofs.CellLaws.{Small, after-term, other-terms, cell-symbol, written-as, drop-terms}
 use Rattle.signature.specs.Symbols.{symbolCount, arityAt}
 use Rattle.signature.proofs.SymbolLaws.{Word, symbol-known}
-use Rattle.listing.specs.Standing.{TermsAt, TermAt, printAfter, Walked}
+use Rattle.listing.specs.Standing.{TermsAt, TermAt, showTerm, showAfter, Walked}
 use Rattle.listing.proofs.PutLaws.{put-nothing}
-use Rattle.listing.proofs.DigitLaws.{decimal-append}
 
 -- The first of the words from a place on.
 pub first-word : (ws : List ℕ) (i w : ℕ) (rest : List ℕ) → drop i ws ≡ w ∷ rest → (i < length ws) × (getD ws i 0 ≡ w) × (drop (i + 1) ws ≡ rest)
@@ -70,7 +69,7 @@ pub record Functor (words cells : List ℕ) (from cell : ℕ) (t : Term) : Type 
   pub standing : TermsAt words cells (from + 1) arguments
   pub known : cell < symbolCount words
   pub arity : arityAt words cell ≡ count arguments
-  pub text : printTerm t [] ≡ (115 ∷ decimal cell []) ++ printArguments arguments []
+  pub term : t ≡ app cell arguments
   pub whole : size t ≡ suc (sizes arguments)
 
 module _ (words cells : List ℕ) (from cell : ℕ) (e : cell ≡ getD cells from 0) where
@@ -78,12 +77,13 @@ module _ (words cells : List ℕ) (from cell : ℕ) (e : cell ≡ getD cells fro
   term-inside (var v) a = first-word cells from (32768 + v) (a .rest) (a .written) .0
   term-inside (app f us) a = first-word cells from f (writeTerms us (a .rest)) (a .written) .0
 
-  pub variable-text : (t : Term) → TermAt words cells from t → 32768 ≤ cell → (printTerm t [] ≡ 118 ∷ decimal (cell - 32768) []) × (size t ≡ 1)
-  variable-text (var v) a h =
+  pub variable-text :
+      (sign : ℕ) (t : Term) → TermAt words cells from t → 32768 ≤ cell → (showTerm sign t [] ≡ sign ∷ decimal (cell - 32768) []) × (size t ≡ 1)
+  variable-text sign (var v) a h =
       let w = first-word cells from (32768 + v) (a .rest) (a .written) in
       let n : v ≡ cell - 32768 = omega (arith, w .1) in
-      (ap {B = List ℕ} (λ x. 118 ∷ decimal x []) n, refl)
-  variable-text (app f us) a h =
+      (ap {B = List ℕ} (λ x. sign ∷ decimal x []) n, refl)
+  variable-text sign (app f us) a h =
       absurd (omega (arith, first-word cells from f (writeTerms us (a .rest)) (a .written) .1, written-as (a .symbols) f (function f (count us)) (a .formed .0 .0) .1))
 
   pub functor-text : (t : Term) → TermAt words cells from t → cell < 32768 → Functor words cells from cell t
@@ -97,15 +97,15 @@ module _ (words cells : List ℕ) (from cell : ℕ) (e : cell ≡ getD cells fro
         standing = record { symbols = a .symbols; rest = a .rest; read = a .read; written = w .2; formed = a .formed .0 .1; small = a .small };
         known = omega (arith, k .0);
         arity = rw same (k .1);
-        text = rw same (ap {B = List ℕ} (λ x. 115 ∷ x) (decimal-append f [] (printArguments us [])));
+        term = ap (λ (n : ℕ). app n us) (sym same);
         whole = refl;
       }
 
 -- Nothing is printed of no terms.
 pub none-walked :
-    (out : List ℕ) (at from mark : ℕ) (ts : Terms) → count ts ≡ 0 → Walked out at from (printAfter mark ts) (sizes ts) at from out
-none-walked out at from mark nil e = record { put = put-nothing out at; passed = omega arith }
-none-walked out at from mark (cons t ts) e = absurd (omega arith)
+    (out : List ℕ) (at from mark sign : ℕ) (ts : Terms) → count ts ≡ 0 → Walked out at from (showAfter mark sign ts) (sizes ts) at from out
+none-walked out at from mark sign nil e = record { put = put-nothing out at; passed = omega arith }
+none-walked out at from mark sign (cons t ts) e = absurd (omega arith)
 
 -- The first of some terms, and the others.
 pub record Split (words cells : List ℕ) (from : ℕ) (ts : Terms) : Type 0 where

@@ -2,3 +2,4 @@ pub mod Put
 pub mod Digits
 pub mod Standing
 pub mod Shown
+pub mod Printed

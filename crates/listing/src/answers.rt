@@ -44,7 +44,7 @@ fn put_answer(
     if from == end {
         return put(out, at, b"true\n");
     }
-    let first = put_term(out, at, cells, from, symbols);
+    let first = put_term(out, at, cells, from, symbols, b'v');
     let p = put_spaced(out, first.at, cells, first.from, end, symbols);
     put(out, p, b"\n")
 }
@@ -65,7 +65,7 @@ fn put_spaced(
     let mut cell = from;
     while cell < end {
         out[p] = b' ';
-        let term = put_term(out, p + 1, cells, cell, symbols);
+        let term = put_term(out, p + 1, cells, cell, symbols, b'v');
         p = term.at;
         cell = term.from;
     }

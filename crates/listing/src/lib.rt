@@ -13,8 +13,8 @@ mod answers;
 pub mod input;
 mod lines;
 pub mod numbers;
-mod terms;
-mod text;
+pub mod terms;
+pub mod text;
 
 pub use crate::lines::put_refusal;
 

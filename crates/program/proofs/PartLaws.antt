@@ -1,10 +1,10 @@
 -- What the program's run comes to, test by test, and what the run on the program's buffers returns and leaves.
 use Prim.Native.Nat.{ℕ, _%_, _≤_, _<_}
 use mathlib.Core.Path.{_≡_, refl, ap, sym, _∙_, subst}
-use mathlib.Core.Bool.{Bool, true, false, _&&_, false≢true}
+use mathlib.Core.Bool.{Bool, true, false, false≢true}
 use mathlib.Core.List.{List}
 use native.Mathlib.Omega.{arith}
-use borrow.Author.Tests.{le-leb, lt-leb, leb-true, eq-eqb, ne-eqb}
+use borrow.Author.Tests.{le-leb, lt-leb, eq-eqb, ne-eqb}
 use lib.ListN.{length}
 use Rattle.rules.specs.Syntax.{Deck}
 use Rattle.rules.specs.Refusals.{Refusal, badHeader, longQuery, badQuery, refusalNumber, Checked, refused, accepted, andThen, require, obtain, checkedNumber}
@@ -14,7 +14,8 @@ use Rattle.rules.specs.Run.{Report, report, returned, answersAfter, Slices, Fil
 use Rattle.rules.specs.Program.{wordsFrom, even, deckFile, queryInput, programRun}
 use Rattle.rules.proofs.DeckLaws.{steps-open}
 use Rattle.rules.proofs.Demand3.{run-accepted}
-use Rattle.program.specs.Printed.{fileOf, deckFits, wordsRun, askedRun, openedRun}
+use Rattle.listing.specs.Printed.{fileOf, deckFits}
+use Rattle.program.specs.Runs.{wordsRun, askedRun, openedRun}
 
 -- A number that is not 0 is that of a refusal.
 pub refusal-of : {A : Type 0} (x : Checked A) (number : ℕ) → number ≡ checkedNumber x → (number ≡ 0 → ⊥) → (n : Refusal) × (x ≡ refused n) × (refusalNumber n ≡ number)
@@ -22,10 +23,6 @@ refusal-of (refused n) number e h = (n, refl, sym e)
 refusal-of (accepted a) number e h = absurd (h e)
 
 -- The deck file.
-last-true : (a b : Bool) → a && b ≡ true → b ≡ true
-last-true true b e = e
-last-true false b e = absurd (false≢true e)
-
 pub file-refused : (present : Bool) (bytes input : List ℕ) → deckFits present bytes ≡ false → programRun (fileOf present bytes) input ≡ refused badHeader
 unfolding programRun deckFile andThen require obtain
 file-refused true bytes input e = rw e
@@ -35,9 +32,6 @@ pub file-opened : (present : Bool) (bytes input : List ℕ) → deckFits present
 unfolding programRun deckFile openedRun askedRun andThen require obtain
 file-opened true bytes input e = rw e
 file-opened false bytes input e = absurd (false≢true e)
-
-pub file-small : (present : Bool) (bytes : List ℕ) → deckFits present bytes ≡ true → length bytes ≤ 32768
-file-small present bytes e = leb-true (length bytes) 32768 (last-true (even bytes) _ (last-true present _ e))
 
 -- The deck's words.
 module _ (deckWords input : List ℕ) where

@@ -1,10 +1,11 @@
 // The program as a function on bytes: from the bytes of the deck file, if there is one, and of the query to the bytes that are printed.
-ghost use mathlib.Core.Path.{_≡_};
 ghost use Rattle.rules.specs.Listing.{listing};
 ghost use Rattle.rules.specs.Program.{program};
-ghost use Rattle.program.specs.Printed.{fileOf, deckFits, openedRun, askedRun, wordsRun, Printed};
+ghost use Rattle.listing.specs.Printed.{fileOf, Printed};
+ghost use Rattle.program.specs.Runs.{openedRun, askedRun, wordsRun};
 use deck::Checked;
 use evaluation::Ran;
+use listing::input::deck_fits;
 use listing::input::read_words;
 use listing::put_listing;
 use listing::put_refusal;
@@ -20,19 +21,6 @@ pub fn printed(present: bool, deck: &[u8], query: &[u8], out: &mut [u8; 65594]) 
     let mut words = [0u16; 16384];
     let n = read_words(deck, &mut words);
     opened(&words[..n], query, out)
-}
-
-fn deck_fits(present: bool, deck: &[u8]) -> bool
-    ensures { λ r. ⌜ r ≡ deckFits present (now (deck .entry)) ⌝ }
-{
-    if !present {
-        return false;
-    }
-    let odd = deck.len() % 2;
-    if odd != 0 {
-        return false;
-    }
-    deck.len() <= 32768
 }
 
 // The deck's words are there. The deck is refused before anything is said of the query.

@@ -2,6 +2,7 @@
 pub mod Cases
 pub mod Table
 pub mod MoreRuns
+pub mod TextTable
 -- Lists and terms.
 pub mod ListLaws
 pub mod TermLaws
@@ -13,6 +14,10 @@ pub mod GoalLaws
 pub mod DeckLaws
 pub mod DeckWords
 pub mod FirstGoal
+pub mod TextScan
+pub mod TextTerms
+pub mod TextRead
+pub mod TextTrees
 -- Unification, selection, and the evaluation's equations.
 pub mod UnifyLaws
 pub mod SelectLaws
@@ -39,9 +44,10 @@ pub mod Fitting
 pub mod ThreeCover
 pub mod Contradiction
 pub mod Needed
--- Runs that pin the rules: the words left, the order of things, the bounds, the checks, the listing and the program.
+-- Runs that pin the rules: the words left, the order of things, the bounds, the checks, the listing and the programs.
 pub mod WordRuns
 pub mod SearchRuns
 pub mod StoreRuns
 pub mod RefusalRuns
 pub mod ListingRuns
+pub mod TextRuns

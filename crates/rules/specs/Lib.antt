@@ -1,4 +1,4 @@
--- The written rules of document 01, in the order of its sections.
+-- The written rules of documents 01 and 02, in the order of their sections.
 pub mod Terms
 pub mod Syntax
 pub mod Cells
@@ -15,4 +15,10 @@ pub mod ThreeValues
 pub mod Demand
 pub mod Listing
 pub mod Program
+pub mod TextTokens
+pub mod TextGrammar
+pub mod TextWords
+pub mod TextWriter
+pub mod Text
+pub mod TextProgram
 pub mod All

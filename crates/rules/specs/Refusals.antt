@@ -5,8 +5,9 @@ use mathlib.Core.Option.{Option, none, some}
 
 -- The deck's writer: header or length; a symbol word; clause starts; a clause over 256 cells; a clause that is not a head and literals, or misnumbered.
 -- The query's writer: over 500 cells; not literals, or misnumbered. The caller: the store's size; the scratch's size.
+-- A text: outside the grammar, or a name undeclared, declared twice or used with another arity; a result that does not fit.
 pub data Refusal : Type 0 where
-  badHeader badSymbol badStarts longClause badClause longQuery badQuery badStore badScratch : Refusal
+  badHeader badSymbol badStarts longClause badClause longQuery badQuery badStore badScratch badText noRoom : Refusal
 
 abbrev pub refusalNumber : Refusal → ℕ
 refusalNumber badHeader = 1
@@ -18,6 +19,8 @@ refusalNumber longQuery = 6
 refusalNumber badQuery = 7
 refusalNumber badStore = 8
 refusalNumber badScratch = 9
+refusalNumber badText = 10
+refusalNumber noRoom = 11
 
 -- What checks come to: the first refusal, or what they let through.
 pub data Checked (A : Type 0) : Type 0 where

@@ -2,6 +2,9 @@
 
 use second::judge::{Engine, Lent, Report};
 
+#[cfg(feature = "stand-in")]
+mod stand_in;
+
 mod c {
     extern "C" {
         pub fn leads_open(deck: *const u16, deck_words: usize) -> u32;
@@ -29,6 +32,21 @@ mod c {
             answer_count: *mut u64,
             pending: *mut u32,
             parked: *mut u32,
+        ) -> u32;
+        pub fn leads_read_text(
+            text: *const u8,
+            text_bytes: usize,
+            deck: *mut u16,
+            deck_room: usize,
+            deck_words: *mut usize,
+            place: *mut usize,
+        ) -> u32;
+        pub fn leads_write_text(
+            deck: *const u16,
+            deck_words: usize,
+            text: *mut u8,
+            text_room: usize,
+            text_bytes: *mut usize,
         ) -> u32;
     }
 }
@@ -67,6 +85,16 @@ pub fn run(deck: &[u16], query: &[u16], budget: u32, lent: Lent<'_>, report: &mu
     }
 }
 
+/// 0 and the number of words written, or the refusal's number, 10, 11 or 1 to 5; with 10 the place.
+pub fn read_text(text: &[u8], deck: &mut [u16], words: &mut usize, place: &mut usize) -> u32 {
+    unsafe { c::leads_read_text(text.as_ptr(), text.len(), deck.as_mut_ptr(), deck.len(), words, place) }
+}
+
+/// 0 and the number of bytes written, or the refusal's number, 1 to 5 or 11.
+pub fn write_text(deck: &[u16], text: &mut [u8], bytes: &mut usize) -> u32 {
+    unsafe { c::leads_write_text(deck.as_ptr(), deck.len(), text.as_mut_ptr(), text.len(), bytes) }
+}
+
 /// The engine behind the calls that the second evaluator judges.
 pub struct Leads;
 
@@ -88,5 +116,15 @@ impl Engine for Leads {
         report: &mut Report,
     ) -> u32 {
         run(deck, query, budget, lent, report)
+    }
+}
+
+impl second::text::judge::Engine for Leads {
+    fn read(&self, text: &[u8], deck: &mut [u16], words: &mut usize, place: &mut usize) -> u32 {
+        read_text(text, deck, words, place)
+    }
+
+    fn write(&self, deck: &[u16], text: &mut [u8], bytes: &mut usize) -> u32 {
+        write_text(deck, text, bytes)
     }
 }

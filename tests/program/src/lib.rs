@@ -7,5 +7,6 @@ pub mod inputs;
 pub mod random;
 pub mod run;
 pub mod shape;
+pub mod texts;
 
 pub use inputs::Inputs;

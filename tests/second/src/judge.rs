@@ -5,6 +5,7 @@
 
 use crate::case::Case;
 use crate::evaluation::Outcome;
+use crate::guarded::Guarded;
 
 /// The numbers an accepted run returns; `stop` is 0 finished, 1 budget,
 /// 2 answers, 3 store.
@@ -85,51 +86,6 @@ fn report_of(outcome: &Outcome) -> Report {
     }
 }
 
-/// A buffer filled with a pattern, with guard words on both sides.
-struct Guarded {
-    words: Vec<u16>,
-    salt: u16,
-}
-
-const GUARD: usize = 32;
-
-impl Guarded {
-    fn new(length: usize, salt: u16) -> Guarded {
-        let words = (0..length + 2 * GUARD).map(|at| pattern(at, salt));
-        Guarded {
-            words: words.collect(),
-            salt,
-        }
-    }
-
-    fn lent(&mut self) -> &mut [u16] {
-        let end = self.words.len() - GUARD;
-        &mut self.words[GUARD..end]
-    }
-
-    /// Starts with these words, and is as it was from `untouched` on.
-    fn holds(&self, name: &str, start: &[u16], untouched: usize) -> Result<(), String> {
-        let from = GUARD;
-        let found = &self.words[from..self.words.len() - GUARD];
-        if found.get(..start.len()) != Some(start) {
-            let found = &found[..start.len().min(found.len())];
-            return Err(format!("{name}: starts {found:?}, expected {start:?}"));
-        }
-        let length = found.len();
-        for at in (0..GUARD).chain(GUARD + untouched..length + 2 * GUARD) {
-            if self.words[at] != pattern(at, self.salt) {
-                let place = at as isize - GUARD as isize;
-                return Err(format!("{name}: word {place} of {length} was changed"));
-            }
-        }
-        Ok(())
-    }
-}
-
-fn pattern(at: usize, salt: u16) -> u16 {
-    (at as u16).wrapping_mul(40_503) ^ salt
-}
-
 /// Holds an engine's three calls against this evaluator.
 pub fn judge(engine: &dyn Engine, case: &Case) -> Result<(), String> {
     let opened = engine.open(&case.deck);
@@ -140,9 +96,9 @@ pub fn judge(engine: &dyn Engine, case: &Case) -> Result<(), String> {
 }
 
 fn judge_run(engine: &dyn Engine, case: &Case) -> Result<(), String> {
-    let mut answers = Guarded::new(case.answer_words, 0x5a5a);
-    let mut store = Guarded::new(case.store_words, 0x3c3c);
-    let mut scratch = Guarded::new(case.scratch_words, 0x6969);
+    let mut answers = Guarded::<u16>::new(case.answer_words, 0x5a5a);
+    let mut store = Guarded::<u16>::new(case.store_words, 0x3c3c);
+    let mut scratch = Guarded::<u16>::new(case.scratch_words, 0x6969);
     let lent = Lent {
         answers: answers.lent(),
         store: store.lent(),
@@ -168,7 +124,11 @@ fn judge_run(engine: &dyn Engine, case: &Case) -> Result<(), String> {
     }
 }
 
-fn same<T: PartialEq + std::fmt::Debug>(what: &str, found: &T, expected: &T) -> Result<(), String> {
+pub(crate) fn same<T: PartialEq + std::fmt::Debug>(
+    what: &str,
+    found: &T,
+    expected: &T,
+) -> Result<(), String> {
     if found == expected {
         return Ok(());
     }

@@ -8,6 +8,7 @@ mod programs;
 mod signature;
 mod sizes;
 mod stress;
+pub mod texts;
 
 use crate::case::Case;
 use crate::world::World;

@@ -45,14 +45,18 @@ fn ran(outcome: &Outcome) -> Ran {
 }
 
 pub fn parse(text: &str) -> Result<Vec<(Case, Expected)>, String> {
-    let lines = text.lines().map(str::trim);
-    let lines = lines.filter(|line| !line.is_empty() && !line.starts_with('#'));
-    let mut lines = lines.peekable();
+    let mut lines = case_lines(text).peekable();
     let mut cases = Vec::new();
     while lines.peek().is_some() {
         cases.push(parse_case(&mut lines)?);
     }
     Ok(cases)
+}
+
+/// The lines that are not empty and no heading.
+pub(crate) fn case_lines(text: &str) -> impl Iterator<Item = &str> {
+    let lines = text.lines().map(str::trim);
+    lines.filter(|line| !line.is_empty() && !line.starts_with('#'))
 }
 
 fn parse_case<'a>(lines: &mut impl Iterator<Item = &'a str>) -> Result<(Case, Expected), String> {
@@ -98,7 +102,7 @@ fn parse_expected<'a>(lines: &mut impl Iterator<Item = &'a str>) -> Result<Expec
     }))
 }
 
-fn field<'a>(line: Option<&'a str>, key: &str) -> Result<&'a str, String> {
+pub(crate) fn field<'a>(line: Option<&'a str>, key: &str) -> Result<&'a str, String> {
     let line = line.ok_or(format!("{key} expected at the end"))?;
     let (word, rest) = line.split_once(' ').unwrap_or((line, ""));
     if word == key {
@@ -108,7 +112,7 @@ fn field<'a>(line: Option<&'a str>, key: &str) -> Result<&'a str, String> {
     }
 }
 
-fn numbers<N: std::str::FromStr>(text: &str) -> Result<Vec<N>, String> {
+pub(crate) fn numbers<N: std::str::FromStr>(text: &str) -> Result<Vec<N>, String> {
     let parts = text.split_whitespace();
     parts
         .map(|part| part.parse().map_err(|_| format!("not a number: {part}")))

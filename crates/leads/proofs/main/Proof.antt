@@ -1,6 +1,6 @@
 -- `main`: the bytes printed are lent to be written.
 use borrow.Author.Needs.{needs}
-use Rattle.program.proofs.TextLaws.{printed-lent}
+use Rattle.listing.proofs.PrintedLaws.{printed-lent}
 use Rattle.leads.proofs.main.Statement.{statement}
 use Rattle.leads.proofs.main.Tie as tie
 

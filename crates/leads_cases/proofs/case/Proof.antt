@@ -1,6 +1,6 @@
 -- `case`: the bytes printed are lent to be written.
 use borrow.Author.Needs.{needs}
-use Rattle.program.proofs.TextLaws.{printed-lent}
+use Rattle.listing.proofs.PrintedLaws.{printed-lent}
 use Rattle.leads_cases.proofs.case.Statement.{statement}
 use Rattle.leads_cases.proofs.case.Tie as tie
 

@@ -7,8 +7,9 @@ use lib.ListN.{length, take}
 use lib.Seq.{length-take-le}
 use Rattle.rules.specs.Refusals.{longQuery, badQuery}
 use Rattle.rules.specs.Program.{wordsFrom}
-use Rattle.program.specs.Printed.{askedRun, wordsRun}
-use Rattle.program.proofs.TextLaws.{refusal-printed, words-read}
+use Rattle.program.specs.Runs.{askedRun, wordsRun}
+use Rattle.listing.proofs.PrintedLaws.{words-read}
+use Rattle.program.proofs.TextLaws.{refusal-printed}
 use Rattle.program.proofs.PartLaws.{query-long, query-odd, query-words}
 use Rattle.program.proofs.asked.Statement.{statement}
 use Rattle.program.proofs.asked.Tie as tie

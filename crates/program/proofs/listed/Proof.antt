@@ -10,7 +10,7 @@ use Rattle.report.specs.Reports.{reportOf}
 use Rattle.listing.specs.Shown.{Shown}
 use Rattle.listing.proofs.RunLaws.{run-shown}
 use Rattle.deck.specs.Answers.{refusalFor}
-use Rattle.program.specs.Printed.{wordsRun}
+use Rattle.program.specs.Runs.{wordsRun}
 use Rattle.program.proofs.TextLaws.{refusal-printed, outcome-printed}
 use Rattle.program.proofs.PartLaws.{run-refused, run-done, header-fits}
 use Rattle.program.proofs.listed.Statement.{statement}

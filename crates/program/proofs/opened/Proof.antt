@@ -4,7 +4,7 @@ use mathlib.Core.Path.{_≡_, sym, _∙_}
 use Rattle.rules.specs.Refusals.{checkedNumber}
 use Rattle.rules.specs.Decks.{openDeck}
 use Rattle.deck.proofs.OpenLaws.{accepted-deck}
-use Rattle.program.specs.Printed.{openedRun}
+use Rattle.program.specs.Runs.{openedRun}
 use Rattle.program.proofs.TextLaws.{refusal-printed}
 use Rattle.program.proofs.PartLaws.{refusal-of, deck-refused, deck-opened}
 use Rattle.program.proofs.opened.Statement.{statement}

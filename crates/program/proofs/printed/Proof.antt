@@ -9,9 +9,11 @@ use lib.ListN.{length, take}
 use lib.Seq.{length-take-le}
 use Rattle.rules.specs.Refusals.{badHeader}
 use Rattle.rules.specs.Program.{wordsFrom, programRun, program}
-use Rattle.program.specs.Printed.{fileOf, deckFits, openedRun}
-use Rattle.program.proofs.TextLaws.{refusal-printed, words-read}
-use Rattle.program.proofs.PartLaws.{file-refused, file-opened, file-small}
+use Rattle.listing.specs.Printed.{fileOf, deckFits}
+use Rattle.program.specs.Runs.{openedRun}
+use Rattle.listing.proofs.PrintedLaws.{file-small, words-read}
+use Rattle.program.proofs.TextLaws.{refusal-printed}
+use Rattle.program.proofs.PartLaws.{file-refused, file-opened}
 use Rattle.program.proofs.printed.Statement.{statement}
 use Rattle.program.proofs.printed.Tie as tie
 

@@ -5,8 +5,8 @@ use mathlib.Core.Path.{_≡_, ap, _∙_}
 use mathlib.Core.List.{[], _∷_, _++_}
 use native.Mathlib.Omega.{arith}
 use Rattle.rules.specs.Terms.{Terms, sizes}
-use Rattle.rules.specs.Listing.{trueText, printTerm, printSpaced, printAnswer}
-use Rattle.listing.specs.Standing.{TermsAt}
+use Rattle.rules.specs.Listing.{trueText, printSpaced, printAnswer}
+use Rattle.listing.specs.Standing.{TermsAt, showTerm}
 use Rattle.listing.proofs.PutLaws.{Left, all-left, left-room, put-some, put-last}
 use Rattle.listing.proofs.PrintLaws.{line-parts}
 use Rattle.listing.proofs.StandLaws.{Split, split, no-terms}
@@ -30,7 +30,7 @@ first c r = split _ _ _ (r .0) (r .1) (λ z. c .if1 .left (omega (arith, r .2, a
 line :
     (c : tie.Else1) (r : Row (start c))
     → Left (start c .args .out .now) (start c .args .at) (printAnswer (r .0) (10 ∷ [])) (start c .args .out .now) (start c .args .at)
-    (printTerm (first c r .first) [] ++ (printSpaced (first c r .others) [] ++ (10 ∷ [])))
+    (showTerm 118 (first c r .first) [] ++ (printSpaced (first c r .others) [] ++ (10 ∷ [])))
 line c r =
     let n = first c r in
     all-left _ _ (ap (λ (ts : Terms). printAnswer ts (10 ∷ [])) (n .same) ∙ line-parts (n .first) (n .others))
@@ -65,7 +65,7 @@ put-term-requires : tie.Need-put-term-requires
 put-term-requires c κs =
     let r = given (c .before .before .before .before .before) in
     let n = first (c .before) r in
-    (n .first, n .here, left-room (printTerm (n .first) []) _ (line (c .before) r) (c .before .before .before .before .before .pre .3))
+    (n .first, n .here, left-room (showTerm 118 (n .first) []) _ (line (c .before) r) (c .before .before .before .before .before .pre .3))
 
 put-spaced-requires : tie.Need-put-spaced-requires
 put-spaced-requires c κs =

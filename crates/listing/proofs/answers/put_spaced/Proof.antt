@@ -5,8 +5,8 @@ use mathlib.Core.List.{List, [], _∷_, _++_}
 use native.Mathlib.Omega.{arith}
 use lib.ListN.{set}
 use Rattle.rules.specs.Terms.{Terms, sizes}
-use Rattle.rules.specs.Listing.{printTerm, printSpaced}
-use Rattle.listing.specs.Standing.{TermsAt}
+use Rattle.rules.specs.Listing.{printSpaced}
+use Rattle.listing.specs.Standing.{TermsAt, showTerm}
 use Rattle.listing.proofs.PutLaws.{Left, all-left, left-room, put-one, put-some, none-left}
 use Rattle.listing.proofs.PrintLaws.{after-space}
 use Rattle.listing.proofs.StandLaws.{Split, split, size-positive, no-terms}
@@ -50,7 +50,7 @@ next c r = let l = row c r in split _ _ _ (l .others) (l .standing) (λ z. omega
 spaced :
     (c : tie.In-loop Inv-loop μ-loop) (r : Row (start c))
     → Left (start c .args .out .now) (start c .args .at) (printSpaced (r .0) []) (c .before .loop .out) (c .before .loop .p)
-    ((32 ∷ printTerm (next c r .first) []) ++ printSpaced (next c r .others) [])
+    ((32 ∷ showTerm 118 (next c r .first) []) ++ printSpaced (next c r .others) [])
 spaced c r =
     let n = next c r in
     rw (ap (λ (ts : Terms). printSpaced ts []) (n .same) ∙ after-space (n .first) (n .others)) at (row c r .left)
@@ -58,7 +58,7 @@ spaced c r =
 after-mark :
     (c : tie.In-loop Inv-loop μ-loop) (r : Row (start c))
     → Left (start c .args .out .now) (start c .args .at) (printSpaced (r .0) []) (set (c .before .loop .out) (c .before .loop .p) 32) (c .before .loop .p + 1)
-    (printTerm (next c r .first) [] ++ printSpaced (next c r .others) [])
+    (showTerm 118 (next c r .first) [] ++ printSpaced (next c r .others) [])
 after-mark c r = put-some (spaced c r) (put-one (c .before .loop .out) (c .before .loop .p) 32)
 
 loop-holds : tie.Need-loop-holds Inv-loop μ-loop
@@ -74,7 +74,7 @@ put-term-requires : tie.Need-put-term-requires Inv-loop μ-loop
 put-term-requires c κs =
     let r = given (c .before .before .before .before .before .before) in
     let n = next (c .before) r in
-    (n .first, n .here, left-room (printTerm (n .first) []) _ (after-mark (c .before) r) (c .before .before .before .before .before .before .pre .3))
+    (n .first, n .here, left-room (showTerm 118 (n .first) []) _ (after-mark (c .before) r) (c .before .before .before .before .before .before .pre .3))
 
 loop-less : tie.Need-loop-less Inv-loop μ-loop
 loop-less c =

@@ -1,0 +1,105 @@
+// Names one after the other, with the numbers of their arguments.
+ghost use mathlib.Core.Path.{_≡_};
+ghost use mathlib.Core.Option.{none};
+ghost use Prim.Native.Nat.{_+_, _≤_, _<_};
+ghost use lib.ListN.{length, getD, drop};
+ghost use lib.Seq.{slice};
+ghost use Rattle.rules.specs.TextTokens.{tokens};
+ghost use Rattle.rules.specs.TextGrammar.{item, unread};
+ghost use Rattle.rules.specs.Text.{textDeclarations};
+ghost use Rattle.naming.specs.Table.{Declared};
+ghost use Rattle.uses.specs.Brackets.{Given};
+ghost use Rattle.uses.specs.Uses.{fits, GivenAt, Sees};
+use crate::lookup;
+use text::tokens;
+use text::tokens::Token;
+
+pub enum Seen {
+    Misused(usize),
+    More(usize),
+    Done,
+}
+
+// The arguments of a name, by the kind of the token after it.
+fn arguments(kind: u8, given: &[usize], i: usize) -> usize
+    requires { ⌜ i < length (now given) ⌝ }
+    ensures { λ r. ⌜ (kind ≡ 8 → r ≡ getD (now (given .entry)) i 0) × ((kind ≡ 8 → ⊥) → r ≡ 0) ⌝ }
+{
+    if kind == 8 {
+        return given[i];
+    }
+    0
+}
+
+// Whether a token is no name, or one that is used well; pair i of brackets is the next one.
+fn fine(
+    text: &[u8],
+    froms: &[usize],
+    tos: &[usize],
+    heads: &[u16],
+    befores: &[u16],
+    symbols: &[u16],
+    n: usize,
+    given: &[usize],
+    i: usize,
+    t: Token,
+) -> bool
+    requires { ⌜ (t .from ≤ t .to) × (t .to ≤ length (now text)) × (unread item (tokens 0 (now text)) ≡ none) ⌝ }
+    requires { ⌜ (n ≤ 4096 → Declared (now text) (now froms) (now tos) (now heads) (now befores) (now symbols) n) ⌝ }
+    requires { ⌜ (i < length (now given)) × (t .kind ≡ 2 → GivenAt (now given) i (tokens 0 (drop (t .to) (now text)))) ⌝ }
+    ensures { λ r. ⌜ r ≡ fits (textDeclarations (now (text .entry))) (t .kind) (slice (t .from) (t .to) (now (text .entry))) (tokens 0 (drop (t .to) (now (text .entry)))) ⌝ }
+{
+    if t.kind != 2 {
+        return true;
+    }
+    let from = t.from;
+    let to = t.to;
+    let after = tokens::next_token(text, to);
+    let k = arguments(after.kind, given, i);
+    lookup::takes(text, froms, tos, heads, befores, symbols, n, from, to, k)
+}
+
+// One pair more, after an opening bracket.
+fn pairs(kind: u8, i: usize) -> usize
+    requires { ⌜ i < 4096 ⌝ }
+    ensures { λ r. ⌜ (kind ≡ 8 → r ≡ i + 1) × ((kind ≡ 8 → ⊥) → r ≡ i) ⌝ }
+{
+    if kind == 8 {
+        return i + 1;
+    }
+    i
+}
+
+// The names from `start` on, as far as their arguments are given.
+pub fn check(
+    text: &[u8],
+    froms: &[usize],
+    tos: &[usize],
+    heads: &[u16],
+    befores: &[u16],
+    symbols: &[u16],
+    n: usize,
+    start: usize,
+    given: &[usize],
+) -> Seen
+    requires { ⌜ (start ≤ length (now text)) × (unread item (tokens 0 (now text)) ≡ none) ⌝ }
+    requires { ⌜ (n ≤ 4096 → Declared (now text) (now froms) (now tos) (now heads) (now befores) (now symbols) n) ⌝ }
+    requires { ⌜ (4096 ≤ length (now given)) × Given (tokens 0 (drop start (now text))) (now given) ⌝ }
+    ensures { λ r. ⌜ Sees (now (text .entry)) start r ⌝ }
+{
+    let mut at = start;
+    let mut i = 0;
+    while i < 4096 {
+        let t = tokens::next_token(text, at);
+        let kind = t.kind;
+        if !fine(text, froms, tos, heads, befores, symbols, n, given, i, t) {
+            return Seen::Misused(t.from);
+        }
+        if kind == 1 {
+            return Seen::Done;
+        }
+        i = pairs(kind, i);
+        at = t.to;
+    }
+    Seen::More(at)
+}

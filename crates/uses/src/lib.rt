@@ -1,0 +1,53 @@
+// Uses of names in the clauses of a text (document 02, U1).
+mod brackets;
+mod checking;
+mod lookup;
+mod walk;
+
+ghost use mathlib.Core.Path.{_≡_};
+ghost use mathlib.Core.Option.{none};
+ghost use Prim.Native.Nat.{_≤_};
+ghost use lib.ListN.{length, drop};
+ghost use Rattle.rules.specs.TextTokens.{tokens};
+ghost use Rattle.rules.specs.TextGrammar.{item, unread};
+ghost use Rattle.rules.specs.TextWords.{clauseTokens};
+ghost use Rattle.rules.specs.Text.{placeOf, textDeclarations, textEntries};
+ghost use Rattle.text.specs.Steps.{optionOf};
+ghost use Rattle.naming.specs.Table.{Declared};
+use checking::Seen;
+use text::grammar::Place;
+
+// The first name of the clauses, which begin at `end`, that is undeclared or used with another arity.
+// Where there are more than 4,096 declarations, these are walked over, and the table is not used.
+pub fn misused(
+    text: &[u8],
+    froms: &[usize],
+    tos: &[usize],
+    heads: &[u16],
+    befores: &[u16],
+    symbols: &[u16],
+    n: usize,
+    end: usize,
+) -> Place
+    requires { ⌜ (end ≤ length (now text)) × (unread item (tokens 0 (now text)) ≡ none) × (clauseTokens 0 (tokens 0 (now text)) ≡ tokens 0 (drop end (now text))) ⌝ }
+    requires { ⌜ (n ≤ 4096 → Declared (now text) (now froms) (now tos) (now heads) (now befores) (now symbols) n) ⌝ }
+    ensures { λ r. ⌜ placeOf (now (text .entry)) (Rattle.rules.specs.TextWords.misused (textDeclarations (now (text .entry))) (textEntries (now (text .entry)))) ≡ optionOf r ⌝ }
+{
+    let mut given = [0usize; 4096];
+    let mut at = end;
+    loop {
+        brackets::count(text, at, &mut given);
+        let seen = checking::check(text, froms, tos, heads, befores, symbols, n, at, &given);
+        match seen {
+            Seen::Misused(place) => {
+                return Place::At(place);
+            }
+            Seen::Done => {
+                return Place::Nowhere;
+            }
+            Seen::More(next) => {
+                at = next;
+            }
+        }
+    }
+}

@@ -1,0 +1,5 @@
+pub mod TextParts
+pub mod LiteralLaws
+pub mod LengthLaws
+pub mod DeckLaws
+pub mod PublicWriting

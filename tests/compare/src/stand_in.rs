@@ -1,0 +1,102 @@
+//! The second evaluator under the names of the engine's calls, right or with the slip that `SLIP` names.
+
+use second::judge::{Engine as _, Lent, Report};
+use second::text::judge::{Engine, Second};
+use second::text::slips::SLIPS;
+use std::slice::{from_raw_parts, from_raw_parts_mut};
+use std::sync::LazyLock;
+
+static ENGINE: LazyLock<&dyn Engine> = LazyLock::new(|| {
+    let Ok(name) = std::env::var("SLIP") else {
+        return &Second;
+    };
+    SLIPS.iter().find(|slip| slip.name == name).expect("a slip of this name")
+});
+
+/// # Safety
+/// As in `include/leads.h`.
+#[no_mangle]
+pub unsafe extern "C" fn leads_open(deck: *const u16, deck_words: usize) -> u32 {
+    second::open(from_raw_parts(deck, deck_words))
+}
+
+/// # Safety
+/// As in `include/leads.h`.
+#[no_mangle]
+pub unsafe extern "C" fn leads_check(
+    deck: *const u16,
+    deck_words: usize,
+    query: *const u16,
+    query_words: usize,
+) -> u32 {
+    second::check(from_raw_parts(deck, deck_words), from_raw_parts(query, query_words))
+}
+
+/// # Safety
+/// As in `include/leads.h`.
+#[no_mangle]
+#[allow(clippy::too_many_arguments)]
+pub unsafe extern "C" fn leads_run(
+    deck: *const u16,
+    deck_words: usize,
+    query: *const u16,
+    query_words: usize,
+    budget: u32,
+    answers: *mut u16,
+    answer_words: usize,
+    store: *mut u16,
+    store_words: usize,
+    scratch: *mut u16,
+    scratch_words: usize,
+    stop: *mut u32,
+    steps: *mut u32,
+    answer_count: *mut u64,
+    pending: *mut u32,
+    parked: *mut u32,
+) -> u32 {
+    let deck = from_raw_parts(deck, deck_words);
+    let query = from_raw_parts(query, query_words);
+    let lent = Lent {
+        answers: from_raw_parts_mut(answers, answer_words),
+        store: from_raw_parts_mut(store, store_words),
+        scratch: from_raw_parts_mut(scratch, scratch_words),
+    };
+    let mut report = Report::default();
+    let number = second::judge::Second.run(deck, query, budget, lent, &mut report);
+    if number == 0 {
+        (*stop, *steps, *answer_count) = (report.stop, report.steps, report.answers);
+        (*pending, *parked) = (report.pending, report.parked);
+    }
+    number
+}
+
+/// # Safety
+/// As in `include/leads.h`.
+#[no_mangle]
+pub unsafe extern "C" fn leads_read_text(
+    text: *const u8,
+    text_bytes: usize,
+    deck: *mut u16,
+    deck_room: usize,
+    deck_words: *mut usize,
+    place: *mut usize,
+) -> u32 {
+    let text = from_raw_parts(text, text_bytes);
+    let deck = from_raw_parts_mut(deck, deck_room);
+    ENGINE.read(text, deck, &mut *deck_words, &mut *place)
+}
+
+/// # Safety
+/// As in `include/leads.h`.
+#[no_mangle]
+pub unsafe extern "C" fn leads_write_text(
+    deck: *const u16,
+    deck_words: usize,
+    text: *mut u8,
+    text_room: usize,
+    text_bytes: *mut usize,
+) -> u32 {
+    let deck = from_raw_parts(deck, deck_words);
+    let text = from_raw_parts_mut(text, text_room);
+    ENGINE.write(deck, text, &mut *text_bytes)
+}
