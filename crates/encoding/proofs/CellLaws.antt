@@ -8,9 +8,9 @@ use native.Mathlib.Decide.{ℕ-discrete}
 use lib.ListN.{length, take, drop, set, length-set}
 use lib.Seq.{sets, slice, take-nil}
 use borrow.Author.Tests.{eq-eqb, ne-eqb, lt-leb, le-leb}
-use Rattle.rules.specs.TextTokens.{Kind, kindNumber, Class, noClass, space, letter, zeroDigit, digit, underscore, colon, minus, mark, classNumber, classOf, isClass, numeral, value, Token, endToken, atMost, numberToken, variableToken, impliesToken, tokenFrom, tokens, number, variable}
-use Rattle.rules.specs.TextWords.{Declaration, Use, Entry, aVariable, entryAfter, entries, numberOf, symbolNumber, entryCell}
-use Rattle.rules.specs.Text.{textDeclarations}
+use Rattle.text_rules.specs.TextTokens.{Kind, kindNumber, Class, noClass, space, letter, zeroDigit, digit, underscore, colon, minus, mark, classNumber, classOf, isClass, numeral, value, Token, endToken, atMost, numberToken, variableToken, impliesToken, tokenFrom, tokens, number, variable}
+use Rattle.text_rules.specs.TextWords.{Declaration, Use, Entry, aVariable, entryAfter, entries, numberOf, symbolNumber, entryCell}
+use Rattle.text_rules.specs.Text.{textDeclarations}
 use Rattle.text.specs.Names.{lastWith, nameAt, isName}
 use Rattle.text.specs.Scan.{Next}
 use Rattle.text.specs.declared.tokens.Token.{Token as Scanned}

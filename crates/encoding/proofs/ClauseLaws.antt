@@ -5,9 +5,9 @@ use mathlib.Core.List.{List, [], _∷_, map}
 use native.Mathlib.Omega.{arith}
 use lib.ListN.{length, drop, set}
 use lib.Seq.{sets, set-comm}
-use Rattle.rules.specs.TextTokens.{Kind, dot, kindNumber, value, Token, tokens}
-use Rattle.rules.specs.TextWords.{Entry, aVariable, entryAfter, entries, entryCell, startsFrom}
-use Rattle.rules.specs.Text.{textDeclarations, textEntries}
+use Rattle.text_rules.specs.TextTokens.{Kind, dot, kindNumber, value, Token, tokens}
+use Rattle.text_rules.specs.TextWords.{Entry, aVariable, entryAfter, entries, entryCell, startsFrom}
+use Rattle.text_rules.specs.Text.{textDeclarations, textEntries}
 use Rattle.text.specs.Scan.{Next}
 use Rattle.text.specs.declared.tokens.Token.{Token as Scanned}
 use Rattle.text.proofs.ReadLaws.{tokenOf}

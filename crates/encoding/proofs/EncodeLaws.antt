@@ -8,8 +8,8 @@ use lib.ListN.{length, take, drop, length-append, length-map}
 use lib.Seq.{sets, sets-eq}
 use Rattle.words.proofs.Sets.{sets-append}
 use Rattle.rules.specs.Decks.{writeSymbol, headerWords}
-use Rattle.rules.specs.TextWords.{entryCell, startsFrom, deckFrom}
-use Rattle.rules.specs.Text.{textDeclarations, textEntries, textWords}
+use Rattle.text_rules.specs.TextWords.{entryCell, startsFrom, deckFrom}
+use Rattle.text_rules.specs.Text.{textDeclarations, textEntries, textWords}
 use Rattle.naming.proofs.UseLaws.{symbol-words}
 use Rattle.encoding.specs.declared.sizes.Sizes.{Sizes}
 use Rattle.encoding.specs.Encoding.{Encodable}

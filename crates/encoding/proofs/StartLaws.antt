@@ -7,8 +7,8 @@ use native.Mathlib.Decide.{ℕ-discrete}
 use lib.ListN.{length, set, length-set}
 use lib.Seq.{sets}
 use borrow.Author.Tests.{eq-eqb, ne-eqb}
-use Rattle.rules.specs.TextTokens.{Kind, kindNumber, Token}
-use Rattle.rules.specs.TextWords.{entries, startsFrom}
+use Rattle.text_rules.specs.TextTokens.{Kind, kindNumber, Token}
+use Rattle.text_rules.specs.TextWords.{entries, startsFrom}
 use Rattle.encoding.specs.Walk.{takes, begins, startPut}
 use Rattle.encoding.proofs.WalkLaws.{by-kind, takes-name, takes-variable, takes-other, begins-head, begins-inner, begins-other, useOf, entries-name, entries-variable, entries-other, starts-head, starts-inner, starts-variable}
 

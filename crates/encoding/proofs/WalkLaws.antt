@@ -6,9 +6,9 @@ use native.Mathlib.Omega.{arith}
 use native.Mathlib.Decide.{ℕ-discrete}
 use lib.ListN.{length, drop}
 use borrow.Author.Tests.{eq-eqb, ne-eqb}
-use Rattle.rules.specs.TextTokens.{Kind, dot, kindNumber, value, Token, tokens}
-use Rattle.rules.specs.TextWords.{Use, givenArguments, Entry, aVariable, aHead, aNegated, aSymbol, entryAfter, entries, startsFrom}
-use Rattle.rules.specs.Text.{textEntries}
+use Rattle.text_rules.specs.TextTokens.{Kind, dot, kindNumber, value, Token, tokens}
+use Rattle.text_rules.specs.TextWords.{Use, givenArguments, Entry, aVariable, aHead, aNegated, aSymbol, entryAfter, entries, startsFrom}
+use Rattle.text_rules.specs.Text.{textEntries}
 use Rattle.text.specs.Scan.{tokensFrom, Next}
 use Rattle.text.specs.declared.tokens.Token.{Token as Scanned}
 use Rattle.text.proofs.ReadLaws.{tokenOf}

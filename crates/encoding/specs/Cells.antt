@@ -7,9 +7,9 @@ use mathlib.Core.List.{List}
 use lib.ListN.{length, set}
 use lib.Seq.{slice}
 use lib.Dec.{eqb}
-use Rattle.rules.specs.TextTokens.{Kind, kindNumber}
-use Rattle.rules.specs.TextWords.{Use, Entry, entryAfter, numberOf, entryCell, startsFrom}
-use Rattle.rules.specs.Text.{textDeclarations}
+use Rattle.text_rules.specs.TextTokens.{Kind, kindNumber}
+use Rattle.text_rules.specs.TextWords.{Use, Entry, entryAfter, numberOf, entryCell, startsFrom}
+use Rattle.text_rules.specs.Text.{textDeclarations}
 use Rattle.text.specs.Names.{lastWith, nameAt, isName, Entered}
 use Rattle.text.specs.declared.tokens.Token.{Token}
 

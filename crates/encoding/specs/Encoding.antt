@@ -1,7 +1,7 @@
 -- A text whose words can be written.
 use Prim.Native.Nat.{ℕ, _+_, _≤_}
 use mathlib.Core.List.{List}
-use Rattle.rules.specs.Text.{textEntries}
+use Rattle.text_rules.specs.Text.{textEntries}
 use Rattle.naming.specs.Table.{Declared}
 use Rattle.encoding.specs.declared.sizes.Sizes.{Sizes}
 use Rattle.encoding.specs.Walk.{ClausesAt, Sized}

@@ -5,8 +5,8 @@ use mathlib.Core.Bool.{true, false, _&&_, _||_}
 use mathlib.Core.List.{List}
 use lib.ListN.{length, drop, set}
 use lib.Dec.{eqb}
-use Rattle.rules.specs.TextTokens.{tokens}
-use Rattle.rules.specs.TextWords.{Entry, clauseTokens, startsFrom}
+use Rattle.text_rules.specs.TextTokens.{tokens}
+use Rattle.text_rules.specs.TextWords.{Entry, clauseTokens, startsFrom}
 use Rattle.encoding.specs.declared.sizes.Sizes.{Sizes}
 
 -- The clauses begin at a place, after the declarations.

@@ -5,7 +5,7 @@ ghost use Prim.Native.Nat.{_+_, _≤_};
 ghost use lib.ListN.{length, drop};
 ghost use lib.Seq.{sets};
 ghost use Rattle.rules.specs.Decks.{headerWords};
-ghost use Rattle.rules.specs.Text.{textWords};
+ghost use Rattle.text_rules.specs.Text.{textWords};
 ghost use Rattle.encoding.specs.Encoding.{Encodable};
 use sizes::Sizes;
 

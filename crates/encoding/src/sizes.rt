@@ -1,7 +1,7 @@
 // How many clauses and cells a text has.
 ghost use mathlib.Core.Path.{_≡_};
 ghost use Prim.Native.Nat.{_+_, _≤_, _<_};
-ghost use Rattle.rules.specs.Text.{textEntries};
+ghost use Rattle.text_rules.specs.Text.{textEntries};
 ghost use Rattle.encoding.specs.Walk.{ClausesAt, takes, begins, Sized};
 use text::tokens;
 

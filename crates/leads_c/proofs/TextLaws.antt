@@ -3,7 +3,7 @@ use Prim.Native.Nat.{ℕ}
 use mathlib.Core.Path.{_≡_, refl, ap, sym, _∙_, subst}
 use mathlib.Core.List.{List}
 use Rattle.rules.specs.Refusals.{badText, refusalNumber, refused, accepted}
-use Rattle.rules.specs.Text.{badPlace}
+use Rattle.text_rules.specs.Text.{badPlace}
 use Rattle.deck.specs.Answers.{numberOf, refusalFor}
 use Rattle.deck.specs.declared.Checked.the-variants as checked
 use Rattle.deck.specs.declared.Refusal.{Refusal}

@@ -4,7 +4,7 @@ use mathlib.Core.Path.{_≡_}
 use mathlib.Core.Option.{Option, none, some}
 use mathlib.Core.List.{List}
 use Rattle.rules.specs.Refusals.{refusalNumber, Checked, refused, accepted}
-use Rattle.rules.specs.Text.{badPlace}
+use Rattle.text_rules.specs.Text.{badPlace}
 use Rattle.reading.specs.declared.Read.{Read}
 use Rattle.reading.specs.Reads.{resultOf, DidRead}
 use Rattle.writing.specs.Writes.{Wrote}

@@ -9,12 +9,12 @@ use lib.ListN.{length, getElem?}
 use lib.Dec.{leb}
 use borrow.Author.Tests.{eqb-true, leb-true}
 use Rattle.rules.specs.Syntax.{Symbol, functor, predicate}
-use Rattle.rules.specs.TextTokens.{name, number, kindNumber, Class, noClass, space, letter, zeroDigit, digit, underscore, colon, minus, mark, classNumber, classOf, isClass, numeral, value, Token, atMost, numberToken, variableToken, impliesToken, tokenFrom, endToken, tokens}
-use Rattle.rules.specs.TextGrammar.{is, isKey, sameBytes, fnText, item, unread}
-use Rattle.rules.specs.TextWords.{symbolFrom, tokenAt, declares, declaration, declarations, Declaration, arity}
+use Rattle.text_rules.specs.TextTokens.{name, number, kindNumber, Class, noClass, space, letter, zeroDigit, digit, underscore, colon, minus, mark, classNumber, classOf, isClass, numeral, value, Token, atMost, numberToken, variableToken, impliesToken, tokenFrom, endToken, tokens}
+use Rattle.text_rules.specs.TextGrammar.{is, isKey, sameBytes, fnText, item, unread}
+use Rattle.text_rules.specs.TextWords.{symbolFrom, tokenAt, declares, declaration, declarations, Declaration, arity}
 use Rattle.text.proofs.ClassLaws.{mark-range}
 use Rattle.rules.specs.Decks.{writeSymbol}
-use Rattle.rules.specs.Text.{textDeclarations}
+use Rattle.text_rules.specs.Text.{textDeclarations}
 use Rattle.naming.proofs.FiveLaws.{declared-first, declared-none, five-third, five-readable}
 
 -- A number's token.

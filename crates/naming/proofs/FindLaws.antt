@@ -7,8 +7,8 @@ use mathlib.Core.List.{List, [], _∷_}
 use native.Mathlib.Omega.{arith}
 use lib.ListN.{length, getElem?}
 use borrow.Author.Tests.{eqb-true}
-use Rattle.rules.specs.TextWords.{Declaration, numberOf, isNumber, declaredTwice}
-use Rattle.rules.specs.Text.{textDeclarations}
+use Rattle.text_rules.specs.TextWords.{Declaration, numberOf, isNumber, declaredTwice}
+use Rattle.text_rules.specs.Text.{textDeclarations}
 use Rattle.text.specs.Names.{lastWith, nameAt, isName}
 use Rattle.text.proofs.NameLaws.{last-below}
 use Rattle.text.proofs.NumberLaws.{Names, Distinct, numberFrom, found-number}

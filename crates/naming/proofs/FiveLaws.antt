@@ -4,9 +4,9 @@ use mathlib.Core.Path.{_≡_, refl, ap, sym, _∙_}
 use mathlib.Core.Bool.{Bool, true, false, and-eq-true-iff}
 use mathlib.Core.Option.{none, Option·none-ne-some}
 use mathlib.Core.List.{List, [], _∷_}
-use Rattle.rules.specs.TextTokens.{Kind, name, number, slash, dot, Token}
-use Rattle.rules.specs.TextGrammar.{is, isKey, State, item, keyed, declared, slashed, counted, _⇒_, follows, next, unread}
-use Rattle.rules.specs.TextWords.{declares, declaration, declarations, clauseTokens}
+use Rattle.text_rules.specs.TextTokens.{Kind, name, number, slash, dot, Token}
+use Rattle.text_rules.specs.TextGrammar.{is, isKey, State, item, keyed, declared, slashed, counted, _⇒_, follows, next, unread}
+use Rattle.text_rules.specs.TextWords.{declares, declaration, declarations, clauseTokens}
 use Rattle.text.proofs.GrammarLaws.{take-rule, leave-rule, unread-goes, unread-stops}
 
 -- The lists of the rules, by one test.

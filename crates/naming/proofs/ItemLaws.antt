@@ -9,9 +9,9 @@ use lib.ListN.{length, getD, take, drop}
 use lib.Seq.{slice, drop-cons, take-nil}
 use lib.Dec.{eqb}
 use borrow.Author.Tests.{eq-eqb, ne-eqb, eqb-true}
-use Rattle.rules.specs.TextTokens.{Kind, name, number, slash, dot, kindNumber, value, Token, tokens}
-use Rattle.rules.specs.TextGrammar.{is, isKey, sameBytes, fnText, prText, item, declared, slashed, counted, unread}
-use Rattle.rules.specs.TextWords.{symbolFrom, tokenAt, declares, declaration, declarations, clauseTokens}
+use Rattle.text_rules.specs.TextTokens.{Kind, name, number, slash, dot, kindNumber, value, Token, tokens}
+use Rattle.text_rules.specs.TextGrammar.{is, isKey, sameBytes, fnText, prText, item, declared, slashed, counted, unread}
+use Rattle.text_rules.specs.TextWords.{symbolFrom, tokenAt, declares, declaration, declarations, clauseTokens}
 use Rattle.text.specs.declared.tokens.Token as code
 use Rattle.text.specs.Scan.{tokensFrom, Next}
 use Rattle.text.proofs.ReadLaws.{tokenOf}

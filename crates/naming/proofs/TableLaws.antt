@@ -10,11 +10,11 @@ use native.Mathlib.Decide.{decLt}
 use lib.ListN.{length, getD, getElem?, drop, set}
 use lib.Seq.{slice, getD-set-same, getD-set-other}
 use Rattle.rules.specs.Decks.{writeSymbol}
-use Rattle.rules.specs.TextTokens.{tokens}
-use Rattle.rules.specs.TextGrammar.{item, unread}
-use Rattle.rules.specs.TextWords.{numberOf, isNumber, declaredTwice}
-use Rattle.rules.specs.TextWords as rules
-use Rattle.rules.specs.Text.{textDeclarations, placeOf}
+use Rattle.text_rules.specs.TextTokens.{tokens}
+use Rattle.text_rules.specs.TextGrammar.{item, unread}
+use Rattle.text_rules.specs.TextWords.{numberOf, isNumber, declaredTwice}
+use Rattle.text_rules.specs.TextWords as rules
+use Rattle.text_rules.specs.Text.{textDeclarations, placeOf}
 use Rattle.text.specs.Names.{lastWith, nameAt, isName, Entered}
 use Rattle.text.proofs.NameLaws.{last-ext}
 use Rattle.text.proofs.NumberLaws.{Names, Distinct, declared-once, declared-again, still-distinct}

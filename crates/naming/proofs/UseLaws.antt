@@ -7,11 +7,11 @@ use mathlib.Core.List.{List, [], _∷_, map}
 use native.Mathlib.Omega.{arith}
 use lib.ListN.{length, getD, take, getElem?, replicate, length-replicate}
 use lib.Dec.{eqb}
-use Rattle.rules.specs.TextTokens.{tokens}
-use Rattle.rules.specs.TextGrammar.{item, unread}
-use Rattle.rules.specs.TextWords.{Declaration, numberOf, isNumber, hasArity, declaredAt, Use, wellUsed}
+use Rattle.text_rules.specs.TextTokens.{tokens}
+use Rattle.text_rules.specs.TextGrammar.{item, unread}
+use Rattle.text_rules.specs.TextWords.{Declaration, numberOf, isNumber, hasArity, declaredAt, Use, wellUsed}
 use Rattle.rules.specs.Decks.{writeSymbol}
-use Rattle.rules.specs.Text.{textDeclarations}
+use Rattle.text_rules.specs.Text.{textDeclarations}
 use Rattle.text.specs.Names.{lastWith, nameAt, isName}
 use Rattle.naming.specs.Table.{Declared, Cleared}
 use Rattle.naming.proofs.ArityLaws.{arity-small, word-arity}

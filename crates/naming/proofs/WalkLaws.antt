@@ -8,11 +8,11 @@ use native.Mathlib.Omega.{arith}
 use native.Mathlib.Numerals.{add-one}
 use lib.ListN.{length, getElem?, drop, length-drop}
 use lib.Seq.{slice}
-use Rattle.rules.specs.TextTokens.{tokens}
-use Rattle.rules.specs.TextGrammar.{item, unread}
-use Rattle.rules.specs.TextWords.{declarations, clauseTokens, numberOf, isNumber, declaredTwice}
-use Rattle.rules.specs.TextWords as rules
-use Rattle.rules.specs.Text.{textDeclarations, placeOf}
+use Rattle.text_rules.specs.TextTokens.{tokens}
+use Rattle.text_rules.specs.TextGrammar.{item, unread}
+use Rattle.text_rules.specs.TextWords.{declarations, clauseTokens, numberOf, isNumber, declaredTwice}
+use Rattle.text_rules.specs.TextWords as rules
+use Rattle.text_rules.specs.Text.{textDeclarations, placeOf}
 use Rattle.naming.specs.declared.declarations.Declaration.{Declaration}
 use Rattle.naming.specs.Walks.{declarationOf, Declares, Ends, Passed, Counted}
 

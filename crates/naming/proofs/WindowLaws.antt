@@ -8,9 +8,9 @@ use native.Mathlib.Omega.{arith}
 use native.Mathlib.Decide.{decLt, ℕ-discrete}
 use lib.ListN.{length, getElem?, set}
 use lib.Seq.{slice, getD-set-same, getD-set-other}
-use Rattle.rules.specs.TextWords.{numberOf, isNumber, declaredTwice}
-use Rattle.rules.specs.TextWords as rules
-use Rattle.rules.specs.Text.{textDeclarations, placeOf}
+use Rattle.text_rules.specs.TextWords.{numberOf, isNumber, declaredTwice}
+use Rattle.text_rules.specs.TextWords as rules
+use Rattle.text_rules.specs.Text.{textDeclarations, placeOf}
 use Rattle.text.specs.Names.{lastWith, nameAt, isName, Entered}
 use Rattle.text.specs.Steps.{optionOf}
 use Rattle.text.specs.declared.grammar.Place.{Place}

@@ -5,8 +5,8 @@ use mathlib.Core.Option.{none, some}
 use mathlib.Core.List.{List}
 use lib.ListN.{length, getD, getElem?}
 use Rattle.rules.specs.Decks.{writeSymbol}
-use Rattle.rules.specs.TextWords.{Declaration, declaredTwice}
-use Rattle.rules.specs.Text.{textDeclarations}
+use Rattle.text_rules.specs.TextWords.{Declaration, declaredTwice}
+use Rattle.text_rules.specs.Text.{textDeclarations}
 use Rattle.text.specs.Names.{nameAt, Entered}
 
 -- The first n declarations of a text, in the lent lists: name j is the bytes from froms[j] up to tos[j], chained by a hash (`Entered`); symbols[j] is the symbol's word.

@@ -7,11 +7,11 @@ use mathlib.Core.List.{List, [], _∷_}
 use lib.ListN.{length, drop}
 use lib.Seq.{slice}
 use Rattle.rules.specs.Syntax.{Symbol, functor, predicate}
-use Rattle.rules.specs.TextTokens.{tokens}
-use Rattle.rules.specs.TextGrammar.{item, unread}
-use Rattle.rules.specs.TextWords.{declarations, clauseTokens, declaredTwice}
-use Rattle.rules.specs.TextWords as rules
-use Rattle.rules.specs.Text.{textDeclarations, placeOf}
+use Rattle.text_rules.specs.TextTokens.{tokens}
+use Rattle.text_rules.specs.TextGrammar.{item, unread}
+use Rattle.text_rules.specs.TextWords.{declarations, clauseTokens, declaredTwice}
+use Rattle.text_rules.specs.TextWords as rules
+use Rattle.text_rules.specs.Text.{textDeclarations, placeOf}
 use Rattle.naming.specs.declared.declarations.Declaration.{Declaration}
 use Rattle.naming.specs.declared.declarations.Item.{Item}
 use Rattle.naming.specs.declared.declarations.Item.the-variants as items

@@ -4,8 +4,8 @@ use mathlib.Core.Path.{_≡_}
 use mathlib.Core.Option.{Option, none, some}
 use mathlib.Core.List.{List, []}
 use lib.ListN.{length, getElem?, set}
-use Rattle.rules.specs.TextWords.{Declaration}
-use Rattle.rules.specs.Text.{textDeclarations, placeOf}
+use Rattle.text_rules.specs.TextWords.{Declaration}
+use Rattle.text_rules.specs.Text.{textDeclarations, placeOf}
 use Rattle.text.specs.Names.{Entered}
 use Rattle.text.specs.declared.grammar.Place.{Place}
 use Rattle.text.specs.declared.grammar.Place.the-variants.{At, Nowhere}

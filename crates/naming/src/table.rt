@@ -1,8 +1,8 @@
 // The declared names of a text in a table.
 ghost use mathlib.Core.Path.{_≡_};
 ghost use mathlib.Core.Option.{none};
-ghost use Rattle.rules.specs.TextTokens.{tokens};
-ghost use Rattle.rules.specs.TextGrammar.{item, unread};
+ghost use Rattle.text_rules.specs.TextTokens.{tokens};
+ghost use Rattle.text_rules.specs.TextGrammar.{item, unread};
 ghost use Rattle.naming.specs.Table.{Cleared};
 ghost use Rattle.naming.specs.Walks.{Result};
 use crate::declarations::Item;

@@ -13,9 +13,9 @@ use borrow.Fn.World.{ArgsD}
 use Rattle.rules.specs.Syntax.{Deck}
 use Rattle.rules.specs.Refusals.{badText, noRoom, refusalNumber, Checked, refused, accepted, andThen, require, checkedNumber}
 use Rattle.rules.specs.Decks.{openDeck}
-use Rattle.rules.specs.TextWriter.{deckText}
-use Rattle.rules.specs.Text.{textWords, badPlace, absent, readText}
-use Rattle.rules.proofs.TextRead.{text-again}
+use Rattle.text_rules.specs.TextWriter.{deckText}
+use Rattle.text_rules.specs.Text.{textWords, badPlace, absent, readText}
+use Rattle.text_rules.proofs.TextRead.{text-again}
 use Rattle.deck.specs.declared.Refusal.{Refusal as Why}
 use Rattle.deck.specs.declared.Checked.the-variants as checked
 use Rattle.deck.specs.Answers.{numberOf, refusalFor}

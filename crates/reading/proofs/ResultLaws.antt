@@ -12,10 +12,10 @@ use borrow.Author.Tests.{le-leb, lt-leb, leb-true}
 use Rattle.rules.specs.Syntax.{Deck}
 use Rattle.rules.specs.Refusals.{Refusal, badText, noRoom, refusalNumber, Checked, refused, accepted, andThen, require, checkedNumber}
 use Rattle.rules.specs.Decks.{headerWords, header, headerFits, symbolWords, clauseWords, termCells, readSymbol, readClause, readAll, startsFit, clauseRows, rowsShort, openDeck}
-use Rattle.rules.specs.TextTokens.{tokens}
-use Rattle.rules.specs.TextGrammar.{item, unread}
-use Rattle.rules.specs.TextWords.{declaredTwice, misused, deckFrom}
-use Rattle.rules.specs.Text.{textDeclarations, textEntries, textWords, orElse, badLeft, placeOf, badPlace, absent, readText}
+use Rattle.text_rules.specs.TextTokens.{tokens}
+use Rattle.text_rules.specs.TextGrammar.{item, unread}
+use Rattle.text_rules.specs.TextWords.{declaredTwice, misused, deckFrom}
+use Rattle.text_rules.specs.Text.{textDeclarations, textEntries, textWords, orElse, badLeft, placeOf, badPlace, absent, readText}
 use Rattle.deck.specs.declared.Refusal.{Refusal as Why}
 use Rattle.deck.specs.declared.Refusal.the-variants.{Room}
 use Rattle.deck.specs.declared.Checked.the-variants as checked

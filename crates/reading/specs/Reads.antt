@@ -5,7 +5,7 @@ use mathlib.Core.Option.{Option, none, some}
 use mathlib.Core.List.{List, _++_}
 use lib.ListN.{length, drop}
 use Rattle.rules.specs.Refusals.{Refusal, badText, refusalNumber, Checked, refused, accepted}
-use Rattle.rules.specs.Text.{badPlace, readText}
+use Rattle.text_rules.specs.Text.{badPlace, readText}
 use Rattle.deck.specs.Answers.{refusalFor}
 use Rattle.reading.specs.declared.Read.{Read}
 use Rattle.reading.specs.declared.Read.the-variants.{Words, Unreadable, Refused}

@@ -2,9 +2,9 @@
 ghost use mathlib.Core.Path.{_≡_};
 ghost use mathlib.Core.Option.{none};
 ghost use Prim.Native.Nat.{_≤_};
-ghost use Rattle.rules.specs.TextTokens.{tokens};
-ghost use Rattle.rules.specs.TextGrammar.{item, unread};
-ghost use Rattle.rules.specs.Text.{badPlace};
+ghost use Rattle.text_rules.specs.TextTokens.{tokens};
+ghost use Rattle.text_rules.specs.TextGrammar.{item, unread};
+ghost use Rattle.text_rules.specs.Text.{badPlace};
 ghost use Rattle.naming.specs.Table.{Declared};
 ghost use Rattle.naming.specs.Walks.{Counted};
 ghost use Rattle.reading.specs.Reads.{DidRead};

@@ -2,7 +2,6 @@
 pub mod Cases
 pub mod Table
 pub mod MoreRuns
-pub mod TextTable
 -- Lists and terms.
 pub mod ListLaws
 pub mod TermLaws
@@ -14,10 +13,6 @@ pub mod GoalLaws
 pub mod DeckLaws
 pub mod DeckWords
 pub mod FirstGoal
-pub mod TextScan
-pub mod TextTerms
-pub mod TextRead
-pub mod TextTrees
 -- Unification, selection, and the evaluation's equations.
 pub mod UnifyLaws
 pub mod SelectLaws
@@ -50,4 +45,3 @@ pub mod SearchRuns
 pub mod StoreRuns
 pub mod RefusalRuns
 pub mod ListingRuns
-pub mod TextRuns

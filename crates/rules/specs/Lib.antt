@@ -15,10 +15,4 @@ pub mod ThreeValues
 pub mod Demand
 pub mod Listing
 pub mod Program
-pub mod TextTokens
-pub mod TextGrammar
-pub mod TextWords
-pub mod TextWriter
-pub mod Text
-pub mod TextProgram
 pub mod All

@@ -8,7 +8,7 @@ use native.Mathlib.Decide.{decLt}
 use lib.ListN.{length, getD}
 use lib.Dec.{leb, eqb}
 use borrow.Author.Tests.{le-leb, lt-leb, eq-eqb, ne-eqb, eqb-true, leb-true}
-use Rattle.rules.specs.TextTokens.{Kind, invalid, Class, noClass, space, letter, zeroDigit, digit, underscore, colon, minus, mark, classNumber, Range, range, ranges, classIn, classOf, isClass, digitByte, wordByte, numeral, token, numberToken, tokenFrom}
+use Rattle.text_rules.specs.TextTokens.{Kind, invalid, Class, noClass, space, letter, zeroDigit, digit, underscore, colon, minus, mark, classNumber, Range, range, ranges, classIn, classOf, isClass, digitByte, wordByte, numeral, token, numberToken, tokenFrom}
 
 -- A test that passes at each number below n.
 abbrev every : (ℕ → Bool) → ℕ → Bool

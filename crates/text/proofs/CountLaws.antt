@@ -6,9 +6,9 @@ use mathlib.Core.List.{List, [], _∷_}
 use native.Mathlib.Omega.{arith}
 use lib.ListN.{length, drop}
 use borrow.Author.Tests.{eq-eqb, ne-eqb}
-use Rattle.rules.specs.TextTokens.{kindNumber, opening, closing, comma, Token, tokens}
-use Rattle.rules.specs.TextGrammar.{is}
-use Rattle.rules.specs.TextWords.{commas, givenArguments}
+use Rattle.text_rules.specs.TextTokens.{kindNumber, opening, closing, comma, Token, tokens}
+use Rattle.text_rules.specs.TextGrammar.{is}
+use Rattle.text_rules.specs.TextWords.{commas, givenArguments}
 use Rattle.text.specs.declared.arguments.Count.the-variants.{Inside, Closed}
 use Rattle.text.specs.declared.tokens.Token.{Token as Scanned}
 use Rattle.text.specs.Scan.{tokensFrom, Next}

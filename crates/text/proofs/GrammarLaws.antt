@@ -10,8 +10,8 @@ use lib.Dec.{eqb}
 use lib.ListN.{length, getD, take, drop, length-take, length-drop}
 use lib.Seq.{drop-cons}
 use borrow.Author.Tests.{eq-eqb, ne-eqb}
-use Rattle.rules.specs.TextTokens.{Kind, name, comma, closing, kindNumber, Token}
-use Rattle.rules.specs.TextGrammar.{is, isKey, sameBytes, fnText, prText, Part, head, body, State, item, keyed, declared, slashed, counted, clause, literal, negated, finished, term, named, after, Follow, _⇒_, afterTerm, afterName, follows, next, unread}
+use Rattle.text_rules.specs.TextTokens.{Kind, name, comma, closing, kindNumber, Token}
+use Rattle.text_rules.specs.TextGrammar.{is, isKey, sameBytes, fnText, prText, Part, head, body, State, item, keyed, declared, slashed, counted, clause, literal, negated, finished, term, named, after, Follow, _⇒_, afterTerm, afterName, follows, next, unread}
 use Rattle.text.specs.declared.grammar.Step.{Step}
 use Rattle.text.specs.declared.grammar.Step.the-variants as step
 use Rattle.text.specs.Steps.{depthOf, stepOf, Says, Keys}

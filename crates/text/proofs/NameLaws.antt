@@ -11,7 +11,7 @@ use lib.ListN.{length, getD, set, length-set}
 use lib.Seq.{slice, slice-empty, slice-cons, length-slice, getD-set-same, getD-set-other}
 use lib.Dec.{eqb}
 use borrow.Author.Tests.{eq-eqb, ne-eqb, eqb-true}
-use Rattle.rules.specs.TextGrammar.{sameBytes}
+use Rattle.text_rules.specs.TextGrammar.{sameBytes}
 use Rattle.text.specs.Names.{hashOf, lastWith, nameAt, inBucket, isName, Entered}
 
 pub hash-next : (text : List ℕ) (h i to : ℕ) → i < to → to ≤ length text → hashOf h (slice i to text) ≡ hashOf ((31 * h + getD text i 0) % 1021) (slice (i + 1) to text)

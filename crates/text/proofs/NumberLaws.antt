@@ -8,8 +8,8 @@ use native.Mathlib.Omega.{arith}
 use native.Mathlib.Decide.{decLt, ℕ-discrete}
 use lib.ListN.{length}
 use borrow.Author.Tests.{eq-eqb, ne-eqb}
-use Rattle.rules.specs.TextGrammar.{sameBytes}
-use Rattle.rules.specs.TextWords.{Declaration, numberOf, isNumber}
+use Rattle.text_rules.specs.TextGrammar.{sameBytes}
+use Rattle.text_rules.specs.TextWords.{Declaration, numberOf, isNumber}
 use Rattle.text.specs.Names.{lastWith, isName}
 use Rattle.text.proofs.NameLaws.{bytes-same, bytes-equal, last-below, last-passes}
 

@@ -6,10 +6,10 @@ use mathlib.Core.List.{List, _∷_}
 use native.Mathlib.Omega.{arith}
 use lib.ListN.{length, take, drop}
 use borrow.Author.Tests.{eq-eqb, ne-eqb}
-use Rattle.rules.specs.TextTokens.{token, tokens}
-use Rattle.rules.specs.TextTokens as rules
-use Rattle.rules.specs.TextGrammar.{State, item, follows, next, unread}
-use Rattle.rules.specs.Text.{placeOf}
+use Rattle.text_rules.specs.TextTokens.{token, tokens}
+use Rattle.text_rules.specs.TextTokens as rules
+use Rattle.text_rules.specs.TextGrammar.{State, item, follows, next, unread}
+use Rattle.text_rules.specs.Text.{placeOf}
 use Rattle.text.specs.declared.tokens.Token.{Token}
 use Rattle.text.specs.Scan.{tokensFrom, Next}
 use Rattle.text.specs.Steps.{depthOf}

@@ -8,7 +8,7 @@ use native.Mathlib.Decide.{decLt}
 use native.Mathlib.Numerals.{add-one}
 use lib.ListN.{length, getD, drop, drop-of-length-le}
 use lib.Seq.{drop-cons}
-use Rattle.rules.specs.TextTokens.{space, isClass, digitByte, longest, value, tokens}
+use Rattle.text_rules.specs.TextTokens.{space, isClass, digitByte, longest, value, tokens}
 use Rattle.text.specs.Scan.{DigitsAt}
 
 from-place : (text : List ℕ) (i : ℕ) → i < length text → drop i text ≡ getD text i 0 ∷ drop (i + 1) text

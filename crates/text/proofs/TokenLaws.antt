@@ -9,8 +9,8 @@ use native.Mathlib.Numerals.{add-one}
 use lib.ListN.{length, getD, take, drop, length-append, length-drop, length-take, take-append-drop, drop-of-length-le}
 use lib.Seq.{drop-cons, drop-drop, take-append-seam}
 use borrow.Author.Tests.{le-leb, lt-leb, eq-eqb, ne-eqb}
-use Rattle.rules.specs.TextTokens.{Kind, name, number, variable, implies, ending, invalid, kindNumber, zeroDigit, space, minus, classNumber, classOf, isClass, digitByte, wordByte, longest, numeral, value, token, atMost, numberToken, variableToken, impliesToken, tokenFrom, tokens}
-use Rattle.rules.specs.TextTokens as rules
+use Rattle.text_rules.specs.TextTokens.{Kind, name, number, variable, implies, ending, invalid, kindNumber, zeroDigit, space, minus, classNumber, classOf, isClass, digitByte, wordByte, longest, numeral, value, token, atMost, numberToken, variableToken, impliesToken, tokenFrom, tokens}
+use Rattle.text_rules.specs.TextTokens as rules
 use Rattle.text.specs.declared.tokens.Token.{Token}
 use Rattle.text.specs.declared.tokens.Numeral.{Numeral}
 use Rattle.text.specs.Scan.{Skipped, DigitsAt, single, Scanned, tokensFrom, Next}

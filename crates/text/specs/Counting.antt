@@ -2,8 +2,8 @@
 use Prim.Native.Nat.{ℕ, suc, _+_, _≤_}
 use mathlib.Core.Path.{_≡_}
 use mathlib.Core.List.{List, _∷_}
-use Rattle.rules.specs.TextTokens.{kindNumber, Token}
-use Rattle.rules.specs.TextWords.{commas}
+use Rattle.text_rules.specs.TextTokens.{kindNumber, Token}
+use Rattle.text_rules.specs.TextWords.{commas}
 use Rattle.text.specs.declared.arguments.Count.{Count}
 use Rattle.text.specs.declared.arguments.Count.the-variants.{Inside, Closed}
 

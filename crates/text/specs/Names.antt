@@ -6,7 +6,7 @@ use mathlib.Core.List.{List, [], _∷_}
 use lib.ListN.{length, getD}
 use lib.Seq.{slice}
 use lib.Dec.{eqb}
-use Rattle.rules.specs.TextGrammar.{sameBytes}
+use Rattle.text_rules.specs.TextGrammar.{sameBytes}
 
 abbrev pub hashOf : ℕ → List ℕ → ℕ
 hashOf h [] = h

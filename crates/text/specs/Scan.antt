@@ -5,8 +5,8 @@ use mathlib.Core.Bool.{true, false}
 use mathlib.Core.List.{List, [], _∷_}
 use lib.ListN.{length, getD, take, drop}
 use lib.Dec.{eqb}
-use Rattle.rules.specs.TextTokens.{Kind, kindNumber, value, space, isClass, classOf, token, tokenFrom, tokens}
-use Rattle.rules.specs.TextTokens as rules
+use Rattle.text_rules.specs.TextTokens.{Kind, kindNumber, value, space, isClass, classOf, token, tokenFrom, tokens}
+use Rattle.text_rules.specs.TextTokens as rules
 use Rattle.text.specs.declared.tokens.Token.{Token}
 use Rattle.text.specs.declared.tokens.Numeral.{Numeral}
 

@@ -5,9 +5,9 @@ use mathlib.Core.Bool.{Bool, true, false}
 use mathlib.Core.Option.{Option, none, some}
 use mathlib.Core.List.{List}
 use lib.ListN.{take, drop}
-use Rattle.rules.specs.TextTokens.{kindNumber, Token}
-use Rattle.rules.specs.TextGrammar.{isKey, Part, head, body, item, keyed, declared, slashed, counted, clause, literal, negated, finished, term, named, after, Follow, next}
-use Rattle.rules.specs.TextGrammar as rules
+use Rattle.text_rules.specs.TextTokens.{kindNumber, Token}
+use Rattle.text_rules.specs.TextGrammar.{isKey, Part, head, body, item, keyed, declared, slashed, counted, clause, literal, negated, finished, term, named, after, Follow, next}
+use Rattle.text_rules.specs.TextGrammar as rules
 use Rattle.text.specs.declared.grammar.State.{State}
 use Rattle.text.specs.declared.grammar.State.the-variants.{Item, Keyed, Declared, Slashed, Counted, Clause, Literal, Negated, Finished, Term, Named, After}
 use Rattle.text.specs.declared.grammar.Step.{Step}

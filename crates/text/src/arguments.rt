@@ -2,8 +2,8 @@
 ghost use mathlib.Core.Path.{_≡_};
 ghost use Prim.Native.Nat.{_≤_, _<_};
 ghost use lib.ListN.{length, drop};
-ghost use Rattle.rules.specs.TextTokens.{tokens};
-ghost use Rattle.rules.specs.TextWords.{givenArguments};
+ghost use Rattle.text_rules.specs.TextTokens.{tokens};
+ghost use Rattle.text_rules.specs.TextWords.{givenArguments};
 ghost use Rattle.text.specs.Counting.{Counts};
 use crate::tokens;
 

@@ -1,6 +1,6 @@
 // Classes of bytes.
 ghost use mathlib.Core.Path.{_≡_};
-ghost use Rattle.rules.specs.TextTokens.{classNumber, classOf};
+ghost use Rattle.text_rules.specs.TextTokens.{classNumber, classOf};
 
 // By their numbers: 1 spacing, 2 letter, 3 zero, 4 other digit, 5 `_`, 6 `:`, 7 `-`; 16 and the number of its kind for a token of one byte.
 const CLASSES: [u8; 128] = [

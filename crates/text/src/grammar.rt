@@ -4,9 +4,9 @@ ghost use mathlib.Core.Bool.{_||_};
 ghost use mathlib.Core.List.{[], _∷_};
 ghost use Prim.Native.Nat.{_≤_, _<_};
 ghost use lib.ListN.{length};
-ghost use Rattle.rules.specs.TextTokens.{Kind, kindNumber, Token, tokens};
-ghost use Rattle.rules.specs.TextGrammar.{is, isKey, sameBytes, fnText, prText, item, keyed, _⇒_, afterTerm, afterName, follows, next, unread};
-ghost use Rattle.rules.specs.Text.{placeOf};
+ghost use Rattle.text_rules.specs.TextTokens.{Kind, kindNumber, Token, tokens};
+ghost use Rattle.text_rules.specs.TextGrammar.{is, isKey, sameBytes, fnText, prText, item, keyed, _⇒_, afterTerm, afterName, follows, next, unread};
+ghost use Rattle.text_rules.specs.Text.{placeOf};
 ghost use Rattle.text.specs.Steps.{partOf, stateOf, depthOf, stepOf, Says, Keys, optionOf};
 use crate::tokens;
 

@@ -3,7 +3,7 @@ ghost use mathlib.Core.Path.{_≡_};
 ghost use Prim.Native.Nat.{_+_, _*_, _%_, _-_, _≤_, _<_};
 ghost use lib.ListN.{length, set};
 ghost use lib.Seq.{slice};
-ghost use Rattle.rules.specs.TextGrammar.{sameBytes};
+ghost use Rattle.text_rules.specs.TextGrammar.{sameBytes};
 ghost use Rattle.text.specs.Names.{hashOf, lastWith, nameAt, isName, Entered};
 
 fn mix(h: u32, b: u8) -> u32

@@ -2,7 +2,7 @@
 ghost use mathlib.Core.Path.{_≡_};
 ghost use Prim.Native.Nat.{_+_, _*_, _-_, _≤_, _<_};
 ghost use lib.ListN.{length, getD, take, drop};
-ghost use Rattle.rules.specs.TextTokens.{classNumber, classOf, wordByte, digitByte, longest, numeral};
+ghost use Rattle.text_rules.specs.TextTokens.{classNumber, classOf, wordByte, digitByte, longest, numeral};
 ghost use Rattle.text.specs.Scan.{Skipped, DigitsAt, single, Scanned, Next};
 use crate::classes::class_of;
 

@@ -7,7 +7,7 @@ use native.Mathlib.Numerals.{add-one}
 use lib.ListN.{length, getD, drop, set, length-append, length-drop}
 use lib.Seq.{drop-cons}
 use Rattle.rules.specs.Listing.{refusedText, digits, decimal}
-use Rattle.rules.specs.TextProgram.{bytesFrom, placeLine}
+use Rattle.text_rules.specs.TextProgram.{bytesFrom, placeLine}
 use Rattle.listing.specs.Put.{Put}
 use Rattle.listing.proofs.DigitLaws.{decimal-append, decimal-length}
 use Rattle.listing.proofs.PutLaws.{put-byte, put-one}

@@ -8,8 +8,8 @@ use lib.ListN.{length, drop}
 use Rattle.rules.specs.Refusals.{Refusal, badHeader, Checked, refused, accepted, andThen, require, obtain}
 use Rattle.rules.specs.Listing.{listing}
 use Rattle.rules.specs.Program.{wordsFrom, deckFile}
-use Rattle.rules.specs.Text.{writeText}
-use Rattle.rules.specs.TextProgram.{writeRun, writePrints, writeProgram}
+use Rattle.text_rules.specs.Text.{writeText}
+use Rattle.text_rules.specs.TextProgram.{writeRun, writePrints, writeProgram}
 use Rattle.listing.specs.Printed.{fileOf, deckFits, Printed}
 use Rattle.writing.specs.Writes.{bytesOf, textAfter, Wrote}
 

@@ -1,5 +1,5 @@
 // The programs over texts as functions on bytes: from the bytes of their input to the bytes that are printed (document 02, U1).
-ghost use Rattle.rules.specs.TextProgram.{readProgram, writeProgram};
+ghost use Rattle.text_rules.specs.TextProgram.{readProgram, writeProgram};
 ghost use Rattle.listing.specs.Printed.{fileOf, Printed};
 use deck::Checked;
 use listing::input::deck_fits;

@@ -2,7 +2,7 @@
 ghost use mathlib.Core.Path.{_≡_};
 ghost use Prim.Native.Nat.{_*_, _/_, _%_, _<_, _≤_};
 ghost use lib.ListN.{length};
-ghost use Rattle.rules.specs.TextProgram.{bytesFrom, placeLine};
+ghost use Rattle.text_rules.specs.TextProgram.{bytesFrom, placeLine};
 ghost use Rattle.listing.specs.Put.{Put};
 use listing::numbers::put_prefixed;
 use listing::text::put;

@@ -8,12 +8,12 @@ use native.Mathlib.Omega.{arith}
 use lib.ListN.{length, getElem?}
 use lib.Dec.{leb, eqb}
 use borrow.Author.Tests.{ne-eqb, eqb-true, leb-true}
-use Rattle.rules.specs.TextTokens.{name, number, kindNumber, Class, noClass, space, letter, zeroDigit, digit, underscore, colon, minus, mark, classNumber, classOf, isClass, numeral, value, Token, atMost, numberToken, variableToken, impliesToken, tokenFrom, tokens}
-use Rattle.rules.specs.TextGrammar.{is, isKey, item, unread, sameBytes, fnText}
-use Rattle.rules.specs.TextWords.{Declaration, symbolFrom, tokenAt, declares, declaration, declarations, arity}
-use Rattle.rules.specs.Text.{textDeclarations}
-use Rattle.rules.proofs.TextTrees.{ArgumentsOf, bare, bracketed, ClausesOf, noClause, fact, rule, TextOf, clauses, grammar-agrees}
-use Rattle.rules.proofs.TextTrees as trees
+use Rattle.text_rules.specs.TextTokens.{name, number, kindNumber, Class, noClass, space, letter, zeroDigit, digit, underscore, colon, minus, mark, classNumber, classOf, isClass, numeral, value, Token, atMost, numberToken, variableToken, impliesToken, tokenFrom, tokens}
+use Rattle.text_rules.specs.TextGrammar.{is, isKey, item, unread, sameBytes, fnText}
+use Rattle.text_rules.specs.TextWords.{Declaration, symbolFrom, tokenAt, declares, declaration, declarations, arity}
+use Rattle.text_rules.specs.Text.{textDeclarations}
+use Rattle.text_rules.proofs.TextTrees.{ArgumentsOf, bare, bracketed, ClausesOf, noClause, fact, rule, TextOf, clauses, grammar-agrees}
+use Rattle.text_rules.proofs.TextTrees as trees
 use Rattle.text.proofs.ClassLaws.{mark-range}
 use Rattle.uses.proofs.BracketLaws.{true-false}
 

@@ -9,8 +9,8 @@ use native.Mathlib.Decide.{decLt, ℕ-discrete}
 use lib.ListN.{length, getD, set, drop, length-set}
 use lib.Seq.{getD-set-same, getD-set-other, getD-drop, drop-drop, drop-nil}
 use borrow.Author.Tests.{eq-eqb, ne-eqb}
-use Rattle.rules.specs.TextTokens.{kindNumber, Token}
-use Rattle.rules.specs.TextWords.{commas}
+use Rattle.text_rules.specs.TextTokens.{kindNumber, Token}
+use Rattle.text_rules.specs.TextWords.{commas}
 use Rattle.text.proofs.CountLaws.{count-opening, count-closing, count-inside, count-closed, count-comma, count-passed}
 use Rattle.uses.specs.declared.brackets.Counting.{Counting}
 use Rattle.uses.specs.Brackets.{inBrackets, Given, Known, Counted, Fits, Stepped}

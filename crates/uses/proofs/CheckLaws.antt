@@ -9,10 +9,10 @@ use native.Mathlib.Decide.{ℕ-discrete}
 use lib.ListN.{length, getD, take, drop}
 use lib.Seq.{slice, take-nil}
 use borrow.Author.Tests.{eq-eqb, ne-eqb}
-use Rattle.rules.specs.TextTokens.{Kind, name, variable, dot, tilde, kindNumber, Token, tokens}
-use Rattle.rules.specs.TextGrammar.{is, sameKind}
-use Rattle.rules.specs.TextWords.{Declaration, commas, givenArguments, Use, Entry, entryAfter, entries, wellUsed, misused, clauseTokens}
-use Rattle.rules.specs.Text.{placeOf, textDeclarations, textEntries}
+use Rattle.text_rules.specs.TextTokens.{Kind, name, variable, dot, tilde, kindNumber, Token, tokens}
+use Rattle.text_rules.specs.TextGrammar.{is, sameKind}
+use Rattle.text_rules.specs.TextWords.{Declaration, commas, givenArguments, Use, Entry, entryAfter, entries, wellUsed, misused, clauseTokens}
+use Rattle.text_rules.specs.Text.{placeOf, textDeclarations, textEntries}
 use Rattle.text.specs.declared.tokens.Token.{Token as Scanned}
 use Rattle.text.specs.Scan.{Next}
 use Rattle.text.proofs.ReadLaws.{tokenOf}

@@ -10,7 +10,7 @@ use native.Mathlib.Decide.{decLt, ℕ-discrete}
 use lib.ListN.{length, getD, drop, drop-of-length-le}
 use lib.Seq.{drop-cons}
 use borrow.Author.Tests.{eq-eqb, ne-eqb}
-use Rattle.rules.specs.TextTokens.{endToken, Token, tokens}
+use Rattle.text_rules.specs.TextTokens.{endToken, Token, tokens}
 use Rattle.text.specs.declared.tokens.Token.{Token as Scanned}
 use Rattle.text.specs.Scan.{tokensFrom, Next}
 use Rattle.text.proofs.ReadLaws.{tokenOf}

@@ -8,9 +8,9 @@ use native.Mathlib.Decide.{decLt}
 use lib.ListN.{length, take}
 use lib.Dec.{leb, eqb}
 use borrow.Author.Tests.{eq-eqb, ne-eqb, eqb-true, le-leb}
-use Rattle.rules.specs.TextTokens.{Kind, name, number, variable, implies, invalid, kindNumber, Class, noClass, space, letter, zeroDigit, digit, underscore, colon, minus, mark, classNumber, classIn, ranges, classOf, isClass, digitByte, wordByte, longest, numeral, value, Token, token, atMost, numberToken, variableToken, impliesToken, tokenFrom, endToken, tokens}
-use Rattle.rules.specs.TextGrammar.{is}
-use Rattle.rules.specs.TextWords.{commas}
+use Rattle.text_rules.specs.TextTokens.{Kind, name, number, variable, implies, invalid, kindNumber, Class, noClass, space, letter, zeroDigit, digit, underscore, colon, minus, mark, classNumber, classIn, ranges, classOf, isClass, digitByte, wordByte, longest, numeral, value, Token, token, atMost, numberToken, variableToken, impliesToken, tokenFrom, endToken, tokens}
+use Rattle.text_rules.specs.TextGrammar.{is}
+use Rattle.text_rules.specs.TextWords.{commas}
 use Rattle.text.proofs.ClassLaws.{not-in-table}
 use Rattle.text.proofs.CountLaws.{count-inside, count-passed}
 use Rattle.uses.specs.Brackets.{markOf, inBrackets}

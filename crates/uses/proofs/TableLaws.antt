@@ -10,10 +10,10 @@ use lib.Dec.{eqb}
 use borrow.Author.Tests.{eqb-true}
 use Rattle.rules.specs.Syntax.{Symbol, functor, predicate}
 use Rattle.rules.specs.Decks.{writeSymbol}
-use Rattle.rules.specs.TextTokens.{tokens}
-use Rattle.rules.specs.TextGrammar.{item, unread, sameBytes}
-use Rattle.rules.specs.TextWords.{Declaration, numberOf, isNumber, declaredTwice, arity, hasArity, declaredAt}
-use Rattle.rules.specs.Text.{textDeclarations}
+use Rattle.text_rules.specs.TextTokens.{tokens}
+use Rattle.text_rules.specs.TextGrammar.{item, unread, sameBytes}
+use Rattle.text_rules.specs.TextWords.{Declaration, numberOf, isNumber, declaredTwice, arity, hasArity, declaredAt}
+use Rattle.text_rules.specs.Text.{textDeclarations}
 use Rattle.text.specs.Names.{lastWith, nameAt, isName}
 use Rattle.text.proofs.NameLaws.{bytes-equal, last-below}
 use Rattle.text.proofs.NumberLaws.{Names, Distinct, numberFrom, found-number}

@@ -9,12 +9,12 @@ use lib.ListN.{length, getD, getElem?, drop}
 use lib.Seq.{slice}
 use lib.Dec.{eqb}
 use borrow.Author.Tests.{eq-eqb, ne-eqb, eqb-true}
-use Rattle.rules.specs.TextTokens.{name, slash, number, dot, kindNumber, value, Token, endToken, tokens}
-use Rattle.rules.specs.TextGrammar.{is, isKey, item, unread, sameBytes}
-use Rattle.rules.specs.TextWords.{Declaration, tokenAt, declares, declaration, declarations, numberOf, arity, hasArity, declaredAt}
-use Rattle.rules.specs.Text.{textDeclarations}
-use Rattle.rules.proofs.TextTrees.{TextOf, clauses, ClausesOf, grammar-agrees}
-use Rattle.rules.proofs.TextTrees as trees
+use Rattle.text_rules.specs.TextTokens.{name, slash, number, dot, kindNumber, value, Token, endToken, tokens}
+use Rattle.text_rules.specs.TextGrammar.{is, isKey, item, unread, sameBytes}
+use Rattle.text_rules.specs.TextWords.{Declaration, tokenAt, declares, declaration, declarations, numberOf, arity, hasArity, declaredAt}
+use Rattle.text_rules.specs.Text.{textDeclarations}
+use Rattle.text_rules.proofs.TextTrees.{TextOf, clauses, ClausesOf, grammar-agrees}
+use Rattle.text_rules.proofs.TextTrees as trees
 use Rattle.text.specs.declared.tokens.Token.{Token as Scanned}
 use Rattle.text.specs.Scan.{tokensFrom, Next}
 use Rattle.text.specs.Steps.{Keys}

@@ -6,9 +6,9 @@ use mathlib.Core.Logic.{_⊎_}
 use mathlib.Core.List.{List, [], _∷_}
 use lib.ListN.{length, getD, drop}
 use lib.Dec.{eqb}
-use Rattle.rules.specs.TextTokens.{Kind, opening, closing, comma, invalid, kindNumber, Token}
-use Rattle.rules.specs.TextGrammar.{is}
-use Rattle.rules.specs.TextWords.{commas}
+use Rattle.text_rules.specs.TextTokens.{Kind, opening, closing, comma, invalid, kindNumber, Token}
+use Rattle.text_rules.specs.TextGrammar.{is}
+use Rattle.text_rules.specs.TextWords.{commas}
 use Rattle.uses.specs.declared.brackets.Counting.{Counting}
 
 -- Brackets and commas are bytes by themselves, in no other token.

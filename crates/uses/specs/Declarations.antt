@@ -5,9 +5,9 @@ use mathlib.Core.Option.{none}
 use mathlib.Core.List.{List, [], _∷_}
 use lib.ListN.{length, drop}
 use lib.Seq.{slice}
-use Rattle.rules.specs.TextTokens.{tokens}
-use Rattle.rules.specs.TextGrammar.{item, unread}
-use Rattle.rules.specs.TextWords.{Declaration, declarations, arity}
+use Rattle.text_rules.specs.TextTokens.{tokens}
+use Rattle.text_rules.specs.TextGrammar.{item, unread}
+use Rattle.text_rules.specs.TextWords.{Declaration, declarations, arity}
 use Rattle.uses.specs.declared.walk.Item.{Item}
 use Rattle.uses.specs.declared.walk.Here.{Here}
 use Rattle.uses.specs.declared.walk.Here.the-variants.{Declares, Nothing}

@@ -6,9 +6,9 @@ use mathlib.Core.Option.{Option, none, some}
 use mathlib.Core.List.{List, [], _∷_}
 use lib.ListN.{length, getD, drop}
 use lib.Dec.{eqb}
-use Rattle.rules.specs.TextTokens.{kindNumber, Token, tokens}
-use Rattle.rules.specs.TextWords.{Declaration, givenArguments, numberOf, hasArity, declaredAt}
-use Rattle.rules.specs.Text.{placeOf, textDeclarations}
+use Rattle.text_rules.specs.TextTokens.{kindNumber, Token, tokens}
+use Rattle.text_rules.specs.TextWords.{Declaration, givenArguments, numberOf, hasArity, declaredAt}
+use Rattle.text_rules.specs.Text.{placeOf, textDeclarations}
 use Rattle.uses.specs.declared.checking.Seen.{Seen}
 use Rattle.uses.specs.declared.checking.Seen.the-variants.{Misused, More, Done}
 use Rattle.uses.specs.Brackets.{inBrackets}

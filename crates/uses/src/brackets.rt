@@ -4,7 +4,7 @@ ghost use mathlib.Core.Logic.{_⊎_};
 ghost use mathlib.Core.List.{List};
 ghost use Prim.Native.Nat.{ℕ, _+_, _≤_, _<_};
 ghost use lib.ListN.{length, getD, drop};
-ghost use Rattle.rules.specs.TextTokens.{tokens};
+ghost use Rattle.text_rules.specs.TextTokens.{tokens};
 ghost use Rattle.uses.specs.Brackets.{MarkAt, Given, Fits, Stepped, Finished};
 
 // The pairs met, how many of them are open, and how many other ones are open in the last of these.

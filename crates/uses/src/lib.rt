@@ -8,10 +8,10 @@ ghost use mathlib.Core.Path.{_≡_};
 ghost use mathlib.Core.Option.{none};
 ghost use Prim.Native.Nat.{_≤_};
 ghost use lib.ListN.{length, drop};
-ghost use Rattle.rules.specs.TextTokens.{tokens};
-ghost use Rattle.rules.specs.TextGrammar.{item, unread};
-ghost use Rattle.rules.specs.TextWords.{clauseTokens};
-ghost use Rattle.rules.specs.Text.{placeOf, textDeclarations, textEntries};
+ghost use Rattle.text_rules.specs.TextTokens.{tokens};
+ghost use Rattle.text_rules.specs.TextGrammar.{item, unread};
+ghost use Rattle.text_rules.specs.TextWords.{clauseTokens};
+ghost use Rattle.text_rules.specs.Text.{placeOf, textDeclarations, textEntries};
 ghost use Rattle.text.specs.Steps.{optionOf};
 ghost use Rattle.naming.specs.Table.{Declared};
 use checking::Seen;
@@ -31,7 +31,7 @@ pub fn misused(
 ) -> Place
     requires { ⌜ (end ≤ length (now text)) × (unread item (tokens 0 (now text)) ≡ none) × (clauseTokens 0 (tokens 0 (now text)) ≡ tokens 0 (drop end (now text))) ⌝ }
     requires { ⌜ (n ≤ 4096 → Declared (now text) (now froms) (now tos) (now heads) (now befores) (now symbols) n) ⌝ }
-    ensures { λ r. ⌜ placeOf (now (text .entry)) (Rattle.rules.specs.TextWords.misused (textDeclarations (now (text .entry))) (textEntries (now (text .entry)))) ≡ optionOf r ⌝ }
+    ensures { λ r. ⌜ placeOf (now (text .entry)) (Rattle.text_rules.specs.TextWords.misused (textDeclarations (now (text .entry))) (textEntries (now (text .entry)))) ≡ optionOf r ⌝ }
 {
     let mut given = [0usize; 4096];
     let mut at = end;

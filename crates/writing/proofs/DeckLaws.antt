@@ -11,8 +11,8 @@ use Rattle.rules.specs.Syntax.{Clause, Deck, varsLiterals}
 use Rattle.rules.specs.Refusals.{Refusal, noRoom, refused, accepted, andThen, require}
 use Rattle.rules.specs.Decks.{headerFits, symbolWords, clauseWords, termCells, startsFit, writeClause, openDeck}
 use Rattle.rules.specs.WellFormed.{All, clauseLiterals}
-use Rattle.rules.specs.TextWriter.{clauseText, deckText}
-use Rattle.rules.specs.Text.{writeText}
+use Rattle.text_rules.specs.TextWriter.{clauseText, deckText}
+use Rattle.text_rules.specs.Text.{writeText}
 use Rattle.rules.proofs.CellLaws.{Small, literals-length, literals-vars, inOrder-small}
 use Rattle.rules.proofs.DeckLaws.{steps-open, opened-written}
 use Rattle.rules.proofs.DeckWords.{ClauseAt, opened-words, clause-at}

@@ -17,7 +17,7 @@ use Rattle.rules.specs.Cells.{Cell, variable, function, positive, negative, inv
 use Rattle.rules.specs.Decks.{writeClause}
 use Rattle.rules.specs.WellFormed.{All, WfSymbol, WfTerm, WfTerms, WfLiterals, clauseLiterals}
 use Rattle.rules.specs.Listing.{digits, decimal}
-use Rattle.rules.specs.TextWriter.{symbolText, literalText, literalsText, bodyText, clauseText}
+use Rattle.text_rules.specs.TextWriter.{symbolText, literalText, literalsText, bodyText, clauseText}
 use Rattle.rules.proofs.CellLaws.{Small, Written, cell-written, readCell-var, after-term, after-terms, cell-symbol, cell-negated, cell-variable}
 use Rattle.deck.specs.Kinds.{symbolOf, kindOf}
 use Rattle.deck.proofs.KindLaws.{Others}

@@ -11,7 +11,7 @@ use Rattle.rules.specs.Syntax.{Symbol, functor, predicate, Literal, pos, neg, v
 use Rattle.rules.specs.Cells.{writeTerms, writeLiterals, positive, negative, symbolCell, negatedCell, readCell}
 use Rattle.rules.specs.Decks.{readSymbol, readAll}
 use Rattle.rules.specs.WellFormed.{All, WfTerms}
-use Rattle.rules.specs.TextWriter.{literalText}
+use Rattle.text_rules.specs.TextWriter.{literalText}
 use Rattle.rules.proofs.CellLaws.{Small, after-terms, other-terms, cell-symbol, cell-negated, written-as, drop-terms}
 use Rattle.signature.proofs.SymbolLaws.{Word, symbol-known}
 use Rattle.listing.specs.Standing.{TermsAt, showTerm}

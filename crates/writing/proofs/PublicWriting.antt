@@ -15,10 +15,10 @@ use borrow.Fn.World.{ArgsD}
 use Rattle.rules.specs.Syntax.{Deck}
 use Rattle.rules.specs.Refusals.{Refusal, noRoom, Checked, refused, accepted, andThen, require}
 use Rattle.rules.specs.Decks.{openDeck}
-use Rattle.rules.specs.TextWriter.{deckText}
-use Rattle.rules.specs.Text.{absent, readText, writeText}
+use Rattle.text_rules.specs.TextWriter.{deckText}
+use Rattle.text_rules.specs.Text.{absent, readText, writeText}
 use Rattle.rules.proofs.DeckLaws.{opened-written}
-use Rattle.rules.proofs.TextRead.{text-again, text-readable, text-words}
+use Rattle.text_rules.proofs.TextRead.{text-again, text-readable, text-words}
 use Rattle.deck.specs.Answers.{refusalFor}
 use Rattle.deck.specs.declared.Refusal.{Refusal as Why}
 use Rattle.writing.specs.declared.Written.the-variants.{Refused, Bytes}

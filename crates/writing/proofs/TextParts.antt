@@ -10,8 +10,8 @@ use lib.Seq.{drop-cons}
 use Rattle.rules.specs.Terms.{Term, var, app, Terms, nil, cons}
 use Rattle.rules.specs.Syntax.{Symbol, functor, predicate, Literal, pos, neg, Clause, Deck}
 use Rattle.rules.specs.Listing.{decimal}
-use Rattle.rules.specs.TextGrammar.{fnText, prText}
-use Rattle.rules.specs.TextWriter.{nameText, declarationText, symbolText, symbolsText, termText, argumentsText, moreText, literalText, literalsText, bodyText, clauseText, clausesText, deckText}
+use Rattle.text_rules.specs.TextGrammar.{fnText, prText}
+use Rattle.text_rules.specs.TextWriter.{nameText, declarationText, symbolText, symbolsText, termText, argumentsText, moreText, literalText, literalsText, bodyText, clauseText, clausesText, deckText}
 use Rattle.deck.specs.Kinds.{symbolOf, symbolsOf}
 use Rattle.deck.proofs.SymbolLaws.{kind-functor, kind-predicate}
 use Rattle.listing.specs.Standing.{showTerm, showArguments, showMore}

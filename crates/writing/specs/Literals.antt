@@ -9,7 +9,7 @@ use Rattle.rules.specs.Syntax.{Symbol, Literal, Clause, varsLiterals}
 use Rattle.rules.specs.Cells.{writeLiterals}
 use Rattle.rules.specs.Decks.{readSymbol, readAll}
 use Rattle.rules.specs.WellFormed.{All, WfLiterals, clauseLiterals}
-use Rattle.rules.specs.TextWriter.{literalText, clauseText}
+use Rattle.text_rules.specs.TextWriter.{literalText, clauseText}
 use Rattle.signature.specs.Symbols.{symbolCount, arityAt}
 use Rattle.listing.specs.Put.{Put}
 use Rattle.listing.specs.Standing.{TermsAt, showTerm, Walked}

@@ -7,7 +7,7 @@ use Rattle.rules.specs.Syntax.{Deck}
 use Rattle.rules.specs.Refusals.{Checked, refused, accepted}
 use Rattle.rules.specs.Decks.{openDeck}
 use Rattle.rules.specs.Listing.{decimal}
-use Rattle.rules.specs.Text.{writeText}
+use Rattle.text_rules.specs.Text.{writeText}
 use Rattle.deck.specs.Answers.{refusalFor}
 use Rattle.writing.specs.declared.Written.{Written}
 use Rattle.writing.specs.declared.Written.the-variants.{Refused, Bytes}

@@ -1,7 +1,7 @@
 // The clauses, one a line.
 ghost use Prim.Native.Nat.{_+_, _≤_};
 ghost use lib.ListN.{length};
-ghost use Rattle.rules.specs.TextWriter.{clausesText};
+ghost use Rattle.text_rules.specs.TextWriter.{clausesText};
 ghost use Rattle.listing.specs.Put.{Put};
 ghost use Rattle.writing.specs.Literals.{ClauseFits, ClauseWritten};
 ghost use Rattle.writing.specs.Writes.{Opens, deckOf};

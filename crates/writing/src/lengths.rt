@@ -5,7 +5,7 @@ ghost use mathlib.Core.List.{[]};
 ghost use lib.ListN.{length};
 ghost use Rattle.rules.specs.Cells.{readCell};
 ghost use Rattle.rules.specs.Listing.{decimal};
-ghost use Rattle.rules.specs.TextWriter.{symbolText, symbolsText, clausesText, deckText};
+ghost use Rattle.text_rules.specs.TextWriter.{symbolText, symbolsText, clausesText, deckText};
 ghost use Rattle.deck.specs.Kinds.{symbolOf, symbolsOf, kindOf};
 ghost use Rattle.signature.specs.Symbols.{symbolCount, symbolWord};
 ghost use Rattle.writing.specs.Lengths.{KnownSymbols, bracketBytes, cellBytes, literalCell, clauseBytes};

@@ -1,6 +1,6 @@
 // Literals, written from the cells that they stand in.
 ghost use mathlib.Core.List.{[]};
-ghost use Rattle.rules.specs.TextWriter.{literalsText, bodyText};
+ghost use Rattle.text_rules.specs.TextWriter.{literalsText, bodyText};
 ghost use Rattle.writing.specs.Literals.{AtomFits, AtomWritten, LiteralFits, LiteralWritten, LiteralsFit, LiteralsWritten};
 use listing::terms::Places;
 use listing::terms::put_applied;

@@ -2,7 +2,7 @@
 ghost use Prim.Native.Nat.{_+_, _<_, _≤_};
 ghost use mathlib.Core.List.{[]};
 ghost use lib.ListN.{length};
-ghost use Rattle.rules.specs.TextWriter.{symbolText, symbolsText};
+ghost use Rattle.text_rules.specs.TextWriter.{symbolText, symbolsText};
 ghost use Rattle.deck.specs.Kinds.{symbolOf, symbolsOf};
 ghost use Rattle.signature.specs.Symbols.{symbolCount, symbolWord};
 ghost use Rattle.listing.specs.Put.{Put};

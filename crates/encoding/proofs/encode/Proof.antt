@@ -5,8 +5,8 @@ use mathlib.Core.List.{map}
 use native.Mathlib.Omega.{arith}
 use lib.ListN.{take}
 use lib.Seq.{sets}
-use Rattle.rules.specs.TextWords.{entryCell, startsFrom}
-use Rattle.rules.specs.Text.{textDeclarations, textEntries}
+use Rattle.text_rules.specs.TextWords.{entryCell, startsFrom}
+use Rattle.text_rules.specs.Text.{textDeclarations, textEntries}
 use Rattle.encoding.proofs.TableLaws.{table-numbered}
 use Rattle.encoding.proofs.EncodeLaws.{encoded-all}
 use borrow.Author.Needs.{needs}

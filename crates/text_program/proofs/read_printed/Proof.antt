@@ -7,7 +7,7 @@ use lib.ListN.{length, take}
 use lib.Seq.{length-take-le}
 use Rattle.rules.specs.Refusals.{noRoom, refused}
 use Rattle.rules.specs.Listing.{listing}
-use Rattle.rules.specs.TextProgram.{bytesFrom, placeLine, readProgram}
+use Rattle.text_rules.specs.TextProgram.{bytesFrom, placeLine, readProgram}
 use Rattle.deck.specs.Answers.{refusalFor}
 use Rattle.deck.proofs.RefusalLaws.{number-small}
 use Rattle.listing.proofs.PrintedLaws.{put-printed, line-printed}

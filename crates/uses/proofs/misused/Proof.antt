@@ -4,7 +4,7 @@ use Prim.Native.Nat.{_-_}
 use mathlib.Core.Path.{ap, sym, _∙_, subst}
 use native.Mathlib.Omega.{arith}
 use lib.ListN.{length}
-use Rattle.rules.specs.Text.{placeOf}
+use Rattle.text_rules.specs.Text.{placeOf}
 use Rattle.uses.specs.Uses.{Sees}
 use Rattle.uses.proofs.CheckLaws.{SearchedTo, search-start}
 use Rattle.uses.proofs.misused.Statement.{statement}

@@ -5,7 +5,7 @@ use mathlib.Core.Path.{ap}
 use mathlib.Core.List.{[]}
 use native.Mathlib.Omega.{arith}
 use lib.ListN.{length, length-append}
-use Rattle.rules.specs.TextWriter.{symbolsText, clausesText, deckText}
+use Rattle.text_rules.specs.TextWriter.{symbolsText, clausesText, deckText}
 use Rattle.listing.specs.Put.{Put}
 use Rattle.listing.proofs.PutLaws.{put-then, put-length}
 use Rattle.writing.specs.Writes.{deckOf}

@@ -2,7 +2,7 @@
 use Prim.Native.Nat.{_-_}
 use native.Mathlib.Omega.{arith}
 use lib.ListN.{length}
-use Rattle.rules.specs.TextTokens.{Kind, dot}
+use Rattle.text_rules.specs.TextTokens.{Kind, dot}
 use Rattle.encoding.proofs.WalkLaws.{Walked, walk-none, walk-on, sized-all}
 use Rattle.encoding.proofs.WalkLaws.{Walked, walk-none, walk-on}
 use Rattle.encoding.proofs.sizes.sizes_of.Statement.{statement}

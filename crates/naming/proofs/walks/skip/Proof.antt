@@ -4,7 +4,7 @@ use Prim.Native.Nat.{_+_, _-_, _≤_, _<_}
 use mathlib.Core.Path.{_≡_, subst}
 use native.Mathlib.Omega.{arith}
 use lib.ListN.{length}
-use Rattle.rules.specs.Text.{textDeclarations}
+use Rattle.text_rules.specs.Text.{textDeclarations}
 use Rattle.naming.specs.Walks.{At, Passed}
 use Rattle.naming.proofs.WalkLaws.{passed-one, passed-all}
 use Rattle.naming.proofs.walks.skip.Statement.{statement}

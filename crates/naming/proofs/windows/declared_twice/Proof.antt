@@ -3,7 +3,7 @@ use borrow.Author.Needs.{needs}
 use Prim.Native.Nat.{_+_, _-_, _≤_, _<_}
 use native.Mathlib.Omega.{arith}
 use lib.ListN.{length}
-use Rattle.rules.specs.Text.{textDeclarations}
+use Rattle.text_rules.specs.Text.{textDeclarations}
 use Rattle.naming.specs.Walks.{Passed}
 use Rattle.naming.specs.Windows.{Known}
 use Rattle.naming.proofs.WalkLaws.{passed-none}

@@ -6,7 +6,7 @@ use lib.ListN.{length, drop}
 use borrow.Author.Tests.{not-true, not-false}
 use Rattle.rules.specs.Refusals.{checkedNumber}
 use Rattle.rules.specs.Decks.{openDeck}
-use Rattle.rules.specs.Text.{textWords}
+use Rattle.text_rules.specs.Text.{textWords}
 use Rattle.deck.specs.Answers.{numberOf}
 use Rattle.reading.specs.declared.Read.the-variants.{Words}
 use Rattle.reading.specs.Reads.{DidRead}

@@ -1,8 +1,8 @@
 -- A declared name, or what may follow a head.
 use borrow.Author.Needs.{needs}
 use mathlib.Core.Path.{refl}
-use Rattle.rules.specs.TextTokens.{name}
-use Rattle.rules.specs.TextGrammar.{head, declared, afterName, follows}
+use Rattle.text_rules.specs.TextTokens.{name}
+use Rattle.text_rules.specs.TextGrammar.{head, declared, afterName, follows}
 use Rattle.text.specs.declared.grammar.State.the-variants.{Declared}
 use Rattle.text.specs.declared.grammar.Step.the-variants as step
 use Rattle.text.proofs.GrammarLaws.{taken, passed}

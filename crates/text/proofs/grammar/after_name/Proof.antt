@@ -4,8 +4,8 @@ use Prim.Native.Nat.{suc, _+_}
 use mathlib.Core.Path.{ap}
 use mathlib.Core.Option.{some}
 use native.Mathlib.Numerals.{add-one}
-use Rattle.rules.specs.TextTokens.{opening}
-use Rattle.rules.specs.TextGrammar.{term, afterTerm, afterName}
+use Rattle.text_rules.specs.TextTokens.{opening}
+use Rattle.text_rules.specs.TextGrammar.{term, afterTerm, afterName}
 use Rattle.text.specs.Steps.{partOf}
 use Rattle.text.specs.declared.grammar.State.the-variants.{Term}
 use Rattle.text.specs.declared.grammar.Step.the-variants as step

@@ -1,8 +1,8 @@
 -- By the part and the number of open brackets.
 use borrow.Author.Needs.{needs}
 use mathlib.Core.Path.{refl}
-use Rattle.rules.specs.TextTokens.{implies, dot, comma, closing}
-use Rattle.rules.specs.TextGrammar.{afterTerm}
+use Rattle.text_rules.specs.TextTokens.{implies, dot, comma, closing}
+use Rattle.text_rules.specs.TextGrammar.{afterTerm}
 use Rattle.text.specs.Steps.{partOf}
 use Rattle.text.proofs.GrammarLaws.{inner-rules}
 use Rattle.text.proofs.grammar.after_term.Statement.{statement}

@@ -2,8 +2,8 @@
 use borrow.Author.Needs.{needs}
 use mathlib.Core.Path.{refl, _∙_}
 use mathlib.Core.List.{[], _∷_}
-use Rattle.rules.specs.TextTokens.{name, ending}
-use Rattle.rules.specs.TextGrammar.{is, head, keyed, named, finished, _⇒_, follows}
+use Rattle.text_rules.specs.TextTokens.{name, ending}
+use Rattle.text_rules.specs.TextGrammar.{is, head, keyed, named, finished, _⇒_, follows}
 use Rattle.text.proofs.GrammarLaws.{key-taken, key-passed}
 use Rattle.text.proofs.grammar.first.Statement.{statement}
 use Rattle.text.proofs.grammar.first.Tie as tie

@@ -2,8 +2,8 @@
 use borrow.Author.Needs.{needs}
 use Prim.Native.Nat.{_<_}
 use mathlib.Core.Path.{refl, subst}
-use Rattle.rules.specs.TextTokens.{name, number, variable, slash, dot, tilde, ending}
-use Rattle.rules.specs.TextGrammar.{follows, next}
+use Rattle.text_rules.specs.TextTokens.{name, number, variable, slash, dot, tilde, ending}
+use Rattle.text_rules.specs.TextGrammar.{follows, next}
 use Rattle.text.specs.Steps.{stateOf, depthOf}
 use Rattle.text.proofs.grammar.follow.Statement.{statement}
 use Rattle.text.proofs.grammar.follow.Tie as tie

@@ -4,7 +4,7 @@ use Prim.Native.Nat.{_+_, _-_}
 use mathlib.Core.Path.{_≡_, ap₂, sym, _∙_}
 use native.Mathlib.Omega.{arith}
 use lib.Seq.{slice}
-use Rattle.rules.specs.TextGrammar.{sameBytes}
+use Rattle.text_rules.specs.TextGrammar.{sameBytes}
 use Rattle.text.proofs.NameLaws.{other-length}
 use Rattle.text.proofs.names.same_name.Statement.{statement}
 use Rattle.text.proofs.names.same_name.Tie as tie

@@ -3,7 +3,7 @@ use borrow.Author.Needs.{needs}
 use Prim.Native.Nat.{_-_}
 use native.Mathlib.Omega.{arith}
 use lib.ListN.{length, getD}
-use Rattle.rules.specs.TextTokens.{digitByte}
+use Rattle.text_rules.specs.TextTokens.{digitByte}
 use Rattle.text.proofs.ClassLaws.{digit-yes, digit-no, digit-range}
 use Rattle.text.proofs.ScanLaws.{longest-stop, longest-past, DigitsTo, digits-start, digits-step, digits-end}
 use Rattle.text.proofs.tokens.digits_at.Statement.{statement}

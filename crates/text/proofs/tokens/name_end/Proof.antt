@@ -4,7 +4,7 @@ use Prim.Native.Nat.{_+_, _-_, _≤_}
 use mathlib.Core.Path.{_≡_, ap}
 use native.Mathlib.Omega.{arith}
 use lib.ListN.{length, getD, drop, length-take}
-use Rattle.rules.specs.TextTokens.{wordByte, longest}
+use Rattle.text_rules.specs.TextTokens.{wordByte, longest}
 use Rattle.text.proofs.ClassLaws.{word-yes, word-no}
 use Rattle.text.proofs.ScanLaws.{longest-more, longest-stop, longest-past}
 use Rattle.text.proofs.tokens.name_end.Statement.{statement}

@@ -5,7 +5,7 @@ use mathlib.Core.Path.{_≡_, refl, sym, _∙_}
 use native.Mathlib.Omega.{arith}
 use lib.ListN.{length, drop}
 use borrow.Author.Tests.{eq-eqb, ne-eqb}
-use Rattle.rules.specs.TextTokens.{isClass, tokens}
+use Rattle.text_rules.specs.TextTokens.{isClass, tokens}
 use Rattle.text.proofs.ScanLaws.{skip-space}
 use Rattle.text.proofs.tokens.skip_spaces.Statement.{statement}
 use Rattle.text.proofs.tokens.skip_spaces.Tie as tie

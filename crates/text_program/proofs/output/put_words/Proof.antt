@@ -3,7 +3,7 @@ use borrow.Author.Needs.{needs}
 use Prim.Native.Nat.{_+_, _-_, _*_, _<_, _≤_}
 use native.Mathlib.Omega.{arith}
 use lib.ListN.{length, drop, set, length-set}
-use Rattle.rules.specs.TextProgram.{bytesFrom}
+use Rattle.text_rules.specs.TextProgram.{bytesFrom}
 use Rattle.listing.proofs.PutLaws.{Left, put-some, none-left}
 use Rattle.text_program.proofs.OutputLaws.{bytes-next, bytes-end, put-two}
 use Rattle.text_program.proofs.output.put_words.Statement.{statement}

@@ -3,8 +3,8 @@ use borrow.Author.Needs.{needs}
 use mathlib.Core.Path.{ap, sym, _∙_}
 use lib.ListN.{drop}
 use lib.Seq.{slice}
-use Rattle.rules.specs.TextTokens.{tokens}
-use Rattle.rules.specs.Text.{textDeclarations}
+use Rattle.text_rules.specs.TextTokens.{tokens}
+use Rattle.text_rules.specs.Text.{textDeclarations}
 use Rattle.uses.specs.Uses.{takes}
 use Rattle.uses.proofs.CheckLaws.{fits-other, fits-name, arguments-given}
 use Rattle.uses.proofs.checking.fine.Statement.{statement}

@@ -3,7 +3,7 @@ use borrow.Author.Needs.{needs}
 use mathlib.Core.List.{[], _∷_, _++_}
 use Rattle.rules.specs.Syntax.{pos, Clause}
 use Rattle.rules.specs.WellFormed.{clauseLiterals}
-use Rattle.rules.specs.TextWriter.{literalText, bodyText, clauseText}
+use Rattle.text_rules.specs.TextWriter.{literalText, bodyText, clauseText}
 use Rattle.listing.proofs.PutLaws.{Left, all-left, left-room, put-some, put-last}
 use Rattle.writing.specs.Literals.{LiteralsAt, Passed}
 use Rattle.writing.proofs.TextParts.{clause-parts}

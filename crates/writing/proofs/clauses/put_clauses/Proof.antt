@@ -5,7 +5,7 @@ use mathlib.Core.Path.{refl}
 use mathlib.Core.List.{[], _++_}
 use native.Mathlib.Omega.{arith}
 use lib.ListN.{length, drop}
-use Rattle.rules.specs.TextWriter.{clauseText, clausesText}
+use Rattle.text_rules.specs.TextWriter.{clauseText, clausesText}
 use Rattle.listing.proofs.PutLaws.{Left, all-left, left-room, put-some, none-left}
 use Rattle.writing.specs.Writes.{deckOf}
 use Rattle.writing.proofs.TextParts.{clauses-next, clauses-end}

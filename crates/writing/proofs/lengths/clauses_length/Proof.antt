@@ -5,7 +5,7 @@ use mathlib.Core.Path.{_≡_, ap}
 use mathlib.Core.List.{[]}
 use native.Mathlib.Omega.{arith}
 use lib.ListN.{length, drop, length-append}
-use Rattle.rules.specs.TextWriter.{clauseText, clausesText}
+use Rattle.text_rules.specs.TextWriter.{clauseText, clausesText}
 use Rattle.writing.specs.Writes.{deckOf}
 use Rattle.writing.proofs.TextParts.{clauses-next, clauses-end}
 use Rattle.writing.proofs.DeckLaws.{header-fits, starts-fit, known-symbols, clause-count, few-clauses, clauseOf, row-short, row-bytes}

@@ -4,7 +4,7 @@ use mathlib.Core.Path.{ap}
 use mathlib.Core.List.{[]}
 use native.Mathlib.Omega.{arith}
 use lib.ListN.{length, length-append}
-use Rattle.rules.specs.TextWriter.{symbolsText, clausesText}
+use Rattle.text_rules.specs.TextWriter.{symbolsText, clausesText}
 use Rattle.writing.specs.Writes.{deckOf}
 use Rattle.writing.proofs.TextParts.{deck-parts}
 use Rattle.writing.proofs.DeckLaws.{header-fits, few-symbols, same-symbols}

@@ -5,7 +5,7 @@ use mathlib.Core.Path.{_≡_, ap}
 use mathlib.Core.List.{[]}
 use native.Mathlib.Omega.{arith}
 use lib.ListN.{length, getD, drop, length-append}
-use Rattle.rules.specs.TextWriter.{symbolText, symbolsText}
+use Rattle.text_rules.specs.TextWriter.{symbolText, symbolsText}
 use Rattle.deck.specs.Kinds.{symbolOf, symbolsOf}
 use Rattle.writing.proofs.TextParts.{symbols-next, symbols-end}
 use Rattle.writing.proofs.lengths.symbols_length.Statement.{statement}

@@ -4,7 +4,7 @@ use mathlib.Core.Path.{ap, _∙_}
 use mathlib.Core.List.{List, [], _∷_, _++_}
 use native.Mathlib.Omega.{arith}
 use Rattle.rules.specs.Syntax.{Literal}
-use Rattle.rules.specs.TextWriter.{literalText, literalsText, bodyText}
+use Rattle.text_rules.specs.TextWriter.{literalText, literalsText, bodyText}
 use Rattle.listing.proofs.PutLaws.{Left, put-nothing, all-left, left-room, put-some, put-last}
 use Rattle.writing.specs.Literals.{LiteralsAt}
 use Rattle.writing.proofs.TextParts.{body-parts, no-body}

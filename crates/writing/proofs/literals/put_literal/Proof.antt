@@ -7,7 +7,7 @@ use native.Mathlib.Omega.{arith}
 use lib.ListN.{length, set, length-set}
 use Rattle.rules.specs.Terms.{app}
 use Rattle.rules.specs.Syntax.{Literal}
-use Rattle.rules.specs.TextWriter.{literalText}
+use Rattle.text_rules.specs.TextWriter.{literalText}
 use Rattle.listing.specs.Standing.{showTerm}
 use Rattle.listing.proofs.PutLaws.{Left, all-left, put-one, put-some, put-last}
 use Rattle.writing.specs.Literals.{LiteralsAt}

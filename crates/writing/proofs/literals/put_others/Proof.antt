@@ -6,7 +6,7 @@ use mathlib.Core.List.{List, [], _∷_, _++_}
 use native.Mathlib.Omega.{arith}
 use lib.ListN.{length}
 use Rattle.rules.specs.Syntax.{Literal}
-use Rattle.rules.specs.TextWriter.{literalText, literalsText}
+use Rattle.text_rules.specs.TextWriter.{literalText, literalsText}
 use Rattle.listing.proofs.PutLaws.{Left, all-left, left-room, put-some, none-left}
 use Rattle.writing.specs.Literals.{LiteralsAt}
 use Rattle.writing.proofs.TextParts.{literals-parts, no-literals}

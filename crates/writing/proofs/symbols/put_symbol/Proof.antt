@@ -3,7 +3,7 @@ use borrow.Author.Needs.{needs}
 use mathlib.Core.Path.{_≡_, ap, sym, _∙_}
 use mathlib.Core.List.{[], _∷_}
 use native.Mathlib.Omega.{arith}
-use Rattle.rules.specs.TextWriter.{symbolText}
+use Rattle.text_rules.specs.TextWriter.{symbolText}
 use Rattle.deck.specs.Kinds.{symbolOf}
 use Rattle.signature.specs.Symbols.{symbolWord}
 use Rattle.writing.specs.Writes.{lineText}

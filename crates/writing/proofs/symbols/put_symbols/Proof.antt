@@ -5,7 +5,7 @@ use mathlib.Core.Path.{refl}
 use mathlib.Core.List.{[], _++_}
 use native.Mathlib.Omega.{arith}
 use lib.ListN.{length, getD, drop}
-use Rattle.rules.specs.TextWriter.{symbolText, symbolsText}
+use Rattle.text_rules.specs.TextWriter.{symbolText, symbolsText}
 use Rattle.deck.specs.Kinds.{symbolOf, symbolsOf}
 use Rattle.listing.proofs.PutLaws.{Left, all-left, left-room, put-some, none-left}
 use Rattle.writing.proofs.TextParts.{symbols-next, symbols-end}

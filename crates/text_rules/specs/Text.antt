@@ -5,12 +5,12 @@ use mathlib.Core.Option.{Option, none, some}
 use mathlib.Core.List.{List}
 use lib.ListN.{length}
 use lib.Dec.{leb}
 use Rattle.rules.specs.Refusals.{badText, noRoom, Checked, accepted, andThen as _>>=_, require}
 use Rattle.rules.specs.Decks.{openDeck}
-use Rattle.rules.specs.TextTokens.{dot, tokens}
-use Rattle.rules.specs.TextGrammar.{item, unread}
-use Rattle.rules.specs.TextWords.{Declaration, declarations, clauseTokens, Entry, entries, declaredTwice, misused, deckFrom}
-use Rattle.rules.specs.TextWriter.{deckText}
+use Rattle.text_rules.specs.TextTokens.{dot, tokens}
+use Rattle.text_rules.specs.TextGrammar.{item, unread}
+use Rattle.text_rules.specs.TextWords.{Declaration, declarations, clauseTokens, Entry, entries, declaredTwice, misused, deckFrom}
+use Rattle.text_rules.specs.TextWriter.{deckText}
 
 unfoldable pub textDeclarations : List ℕ → List Declaration
 textDeclarations text = declarations 0 (tokens 0 text)

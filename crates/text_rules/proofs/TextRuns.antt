@@ -4,11 +4,11 @@ use mathlib.Core.Path.{_≡_, refl}
 use mathlib.Core.List.{List, [], _∷_, _++_, map}
 use mathlib.Core.Option.{some, none}
 use lib.ListN.{length, replicate}
-use Rattle.rules.specs.TextProgram.{readProgram, writeProgram}
-use Rattle.rules.specs.All.{rules}
+use Rattle.text_rules.specs.TextProgram.{readProgram, writeProgram}
+use Rattle.text_rules.specs.All.{rules}
 use Rattle.rules.proofs.Table.{bytesL}
-use Rattle.rules.proofs.TextTable.{deep, textL}
+use Rattle.text_rules.proofs.TextTable.{deep, textL}
 use Rattle.rules.proofs.ListingRuns.{text}
 
 -- Deck L both ways.
 pub reads-L : readProgram textL ≡ bytesL

@@ -4,10 +4,10 @@ use mathlib.Core.Path.{_≡_, refl}
 use mathlib.Core.List.{List, [], _∷_, map}
 use mathlib.Core.Option.{Option, none, some}
 use lib.ListN.{length}
 use Rattle.rules.specs.Refusals.{badHeader, longClause, badClause, badText, noRoom, Checked, refused, accepted}
-use Rattle.rules.specs.Text.{readText, writeText, badPlace}
-use Rattle.rules.specs.All.{rules}
+use Rattle.text_rules.specs.Text.{readText, writeText, badPlace}
+use Rattle.text_rules.specs.All.{rules}
 use Rattle.rules.proofs.Table.{deckL}
 
 -- A text, the length of the lent list, what reading gives, and the place of refusal 10.
 pub record TextCase : Type 0 where

@@ -8,22 +8,22 @@ use native.Mathlib.Omega.{arith}
 use lib.ListN.{length, getElem?, length-map}
 use lib.Dec.{leb}
 use borrow.Author.Tests.{eq-eqb, le-leb}
 use Rattle.rules.specs.Terms.{Term, var, app, Terms, nil, cons, count, size, sizes}
 use Rattle.rules.specs.Syntax.{Symbol, functor, predicate, Literal, pos, neg, Clause, Deck, arguments, varsLiterals}
 use Rattle.rules.specs.Cells.{writeTerm, writeTerms, writeLiteral, writeLiterals, positive, negative, symbolCell, negatedCell, readCell}
 use Rattle.rules.specs.Refusals.{accepted, andThen, require}
 use Rattle.rules.specs.Decks.{writeSymbol, writeClause, clausesCells, clauseStarts, headerWords, writeDeck, openDeck}
 use Rattle.rules.specs.WellFormed.{All, WfLiterals, WfClause, WfSymbol, WfDeck, clauseLiterals}
 use Rattle.rules.specs.Listing.{decimal}
-use Rattle.rules.specs.TextTokens.{Kind, name, number, implies, slash, dot, comma, tilde, classIn, ranges, classOf, isClass, digitByte, wordByte, longest, Token, token, endToken, impliesToken, tokenFrom, tokens}
-use Rattle.rules.specs.TextGrammar.{sameBytes, fnText, prText, isKey, head, body, item, clause, literal, named, after, afterTerm, follows, next, unread}
-use Rattle.rules.specs.TextWords.{Declaration, symbolFrom, declares, declaration, declarations, clauseTokens, arity, Use, Entry, aVariable, aHead, aNegated, aSymbol, entryAfter, entries, numberOf, isNumber, declaredTwice, hasArity, declaredAt, wellUsed, misused, symbolNumber, entryCell, startsFrom, deckFrom}
-use Rattle.rules.specs.TextWriter.{nameText, declarationText, symbolText, symbolsText, argumentsText, moreText, literalText, literalsText, bodyText, clauseText, clausesText, deckText}
-use Rattle.rules.specs.Text.{textDeclarations, textEntries, textWords, orElse, badLeft, placeOf, badPlace, absent, readText, writeText}
+use Rattle.text_rules.specs.TextTokens.{Kind, name, number, implies, slash, dot, comma, tilde, classIn, ranges, classOf, isClass, digitByte, wordByte, longest, Token, token, endToken, impliesToken, tokenFrom, tokens}
+use Rattle.text_rules.specs.TextGrammar.{sameBytes, fnText, prText, isKey, head, body, item, clause, literal, named, after, afterTerm, follows, next, unread}
+use Rattle.text_rules.specs.TextWords.{Declaration, symbolFrom, declares, declaration, declarations, clauseTokens, arity, Use, Entry, aVariable, aHead, aNegated, aSymbol, entryAfter, entries, numberOf, isNumber, declaredTwice, hasArity, declaredAt, wellUsed, misused, symbolNumber, entryCell, startsFrom, deckFrom}
+use Rattle.text_rules.specs.TextWriter.{nameText, declarationText, symbolText, symbolsText, argumentsText, moreText, literalText, literalsText, bodyText, clauseText, clausesText, deckText}
+use Rattle.text_rules.specs.Text.{textDeclarations, textEntries, textWords, orElse, badLeft, placeOf, badPlace, absent, readText, writeText}
 use Rattle.rules.proofs.CellLaws.{Small, inOrder-small, literals-vars, literals-length, literalSizes, terms-length, write-append, after-terms, cell-symbol, cell-negated, written-as}
 use Rattle.rules.proofs.DeckLaws.{deck-length, starts-length, open-written, opened-written}
-use Rattle.rules.proofs.TextScan.{nameToken, scan-arity, value-decimal, same-name, other-name, scan-name}
-use Rattle.rules.proofs.TextTerms.{Has, TextTerm, TextTerms, terms-have, Ends, markToken, mark-ends, argumentsTokens, arguments-end, scan-atom, scan-arguments, Apart, unread-arguments, useOf, termEntries, argumentsEntries, moreEntries, entries-name, entries-arguments}
+use Rattle.text_rules.proofs.TextScan.{nameToken, scan-arity, value-decimal, same-name, other-name, scan-name}
+use Rattle.text_rules.proofs.TextTerms.{Has, TextTerm, TextTerms, terms-have, Ends, markToken, mark-ends, argumentsTokens, arguments-end, scan-atom, scan-arguments, Apart, unread-arguments, useOf, termEntries, argumentsEntries, moreEntries, entries-name, entries-arguments}
 
 -- Declarations of the symbols from number n on.
 abbrev Declares : ℕ → List Symbol → List Declaration → Type 0

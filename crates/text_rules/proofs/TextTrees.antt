@@ -9,8 +9,8 @@ use mathlib.Core.Logic.{_↔_}
 use lib.ListN.{length}
 use lib.Dec.{eqb}
 use borrow.Author.Tests.{eqb-true}
-use Rattle.rules.specs.TextTokens.{Kind, name, number, variable, implies, slash, dot, opening, closing, comma, tilde, ending, space, kindNumber, classOf, isClass, Token, tokenFrom, tokens}
-use Rattle.rules.specs.TextGrammar.{is, isKey, Part, head, body, State, item, keyed, declared, slashed, counted, clause, literal, negated, finished, term, named, after, Follow, _⇒_, afterTerm, afterName, follows, next, unread}
+use Rattle.text_rules.specs.TextTokens.{Kind, name, number, variable, implies, slash, dot, opening, closing, comma, tilde, ending, space, kindNumber, classOf, isClass, Token, tokenFrom, tokens}
+use Rattle.text_rules.specs.TextGrammar.{is, isKey, Part, head, body, State, item, keyed, declared, slashed, counted, clause, literal, negated, finished, term, named, after, Follow, _⇒_, afterTerm, afterName, follows, next, unread}
 
 -- `TermOf ts us`: ts are the tokens of a term and then us. A term is a variable, or a name and its arguments.
 mutual

@@ -5,10 +5,10 @@ use mathlib.Core.Option.{Option, none, some}
 use mathlib.Core.List.{List, [], _∷_, _++_, map}
 use lib.ListN.{length, getD, getElem?, drop}
 use lib.Dec.{eqb}
 use Rattle.rules.specs.Syntax.{Symbol, functor, predicate}
 use Rattle.rules.specs.Decks.{writeSymbol, headerWords}
-use Rattle.rules.specs.TextTokens.{Kind, name, variable, dot, opening, closing, comma, tilde, value, Token, endToken}
-use Rattle.rules.specs.TextGrammar.{sameKind, is, sameBytes, fnText, isKey}
+use Rattle.text_rules.specs.TextTokens.{Kind, name, variable, dot, opening, closing, comma, tilde, value, Token, endToken}
+use Rattle.text_rules.specs.TextGrammar.{sameKind, is, sameBytes, fnText, isKey}
 
 -- A declaration: its symbol, its name, and the bytes left from the name on.
 pub record Declaration : Type 0 where

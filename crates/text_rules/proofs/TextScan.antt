@@ -9,12 +9,12 @@ use lib.ListN.{length, take, drop}
 use lib.Seq.{take-all}
 use lib.Dec.{eqb}
 use borrow.Author.Tests.{lt-ltb, le-ltb, le-leb, eq-eqb, eqb-true}
 use Rattle.rules.specs.WellFormed.{All}
 use Rattle.rules.specs.Listing.{digits, decimal}
-use Rattle.rules.specs.TextTokens.{name, number, variable, classIn, ranges, classOf, letter, zeroDigit, isClass, digitByte, wordByte, longest, numeral, value, Token, token, atMost, numberToken, variableToken, tokenFrom, tokens}
-use Rattle.rules.specs.TextGrammar.{sameBytes}
-use Rattle.rules.specs.TextWriter.{nameText}
+use Rattle.text_rules.specs.TextTokens.{name, number, variable, classIn, ranges, classOf, letter, zeroDigit, isClass, digitByte, wordByte, longest, numeral, value, Token, token, atMost, numberToken, variableToken, tokenFrom, tokens}
+use Rattle.text_rules.specs.TextGrammar.{sameBytes}
+use Rattle.text_rules.specs.TextWriter.{nameText}
 use Rattle.rules.proofs.ListLaws.{all-weaken}
 
 -- Digits, one by one.
 one-digit : (n more : ℕ) (rest : List ℕ) → n < 10 → digits (suc more) n rest ≡ (48 + n) ∷ rest

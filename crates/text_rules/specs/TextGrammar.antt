@@ -11,7 +11,7 @@ use mathlib.Core.Bool.{Bool, true, false, _&&_, _||_}
 use mathlib.Core.Option.{Option, none, some}
 use mathlib.Core.List.{List, [], _∷_}
 use lib.Dec.{eqb}
-use Rattle.rules.specs.TextTokens.{Kind, name, number, variable, implies, slash, dot, opening, closing, comma, tilde, ending, kindNumber, Token}
+use Rattle.text_rules.specs.TextTokens.{Kind, name, number, variable, implies, slash, dot, opening, closing, comma, tilde, ending, kindNumber, Token}
 
 abbrev pub sameKind : Kind → Kind → Bool
 sameKind k l = eqb (kindNumber k) (kindNumber l)

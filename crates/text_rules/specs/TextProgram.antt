@@ -5,10 +5,10 @@ use mathlib.Core.Option.{Option, none, some}
 use mathlib.Core.List.{List, [], _∷_, _++_}
 use lib.ListN.{length}
 use lib.Dec.{leb}
 use Rattle.rules.specs.Refusals.{badText, noRoom, refusalNumber, Checked, refused, accepted, andThen as _>>=_}
 use Rattle.rules.specs.Listing.{refusedText, decimal, listing}
 use Rattle.rules.specs.Program.{deckFile}
-use Rattle.rules.specs.Text.{badPlace, readText, writeText}
+use Rattle.text_rules.specs.Text.{badPlace, readText, writeText}
 
 -- The bytes of words, low byte first.
 unfoldable pub bytesFrom : List ℕ → List ℕ

@@ -6,16 +6,16 @@ use mathlib.Core.Option.{Option, none, some, Option·none-ne-some}
 use mathlib.Core.List.{List, [], _∷_}
 use native.Mathlib.Omega.{arith}
 use lib.ListN.{length, getElem?}
 use Rattle.rules.specs.Terms.{Term, var, app, Terms, nil, cons, count, varsTerm, varsTerms}
 use Rattle.rules.specs.Syntax.{Symbol, functor, predicate}
 use Rattle.rules.specs.Cells.{function, symbolCell, readCell}
 use Rattle.rules.specs.WellFormed.{All, WfTerm, WfTerms}
-use Rattle.rules.specs.TextTokens.{Kind, name, variable, opening, closing, comma, classIn, ranges, classOf, isClass, digitByte, wordByte, longest, Token, token, tokenFrom, tokens}
-use Rattle.rules.specs.TextGrammar.{is, Part, term, named, after, afterTerm, afterName, follows, next, unread}
-use Rattle.rules.specs.TextWords.{arity, commas, givenArguments, Use, Entry, aVariable, aSymbol, entryAfter, entries}
-use Rattle.rules.specs.TextWriter.{nameText, termText, argumentsText, moreText}
+use Rattle.text_rules.specs.TextTokens.{Kind, name, variable, opening, closing, comma, classIn, ranges, classOf, isClass, digitByte, wordByte, longest, Token, token, tokenFrom, tokens}
+use Rattle.text_rules.specs.TextGrammar.{is, Part, term, named, after, afterTerm, afterName, follows, next, unread}
+use Rattle.text_rules.specs.TextWords.{arity, commas, givenArguments, Use, Entry, aVariable, aSymbol, entryAfter, entries}
+use Rattle.text_rules.specs.TextWriter.{nameText, termText, argumentsText, moreText}
 use Rattle.rules.proofs.CellLaws.{Small, cell-symbol, written-as, after-term}
-use Rattle.rules.proofs.TextScan.{nameToken, varToken, scan-name, scan-variable, value-decimal}
+use Rattle.text_rules.proofs.TextScan.{nameToken, varToken, scan-name, scan-variable, value-decimal}
 
 -- Symbol f has arity k.
 abbrev pub Has : List Symbol → ℕ → ℕ → Type 0

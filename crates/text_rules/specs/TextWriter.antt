@@ -1,10 +1,10 @@
 -- A deck as text (document 02, U1): one item a line, each ended by byte 10, with names s0, s1 and on. Most functions take `rest`, the bytes that follow.
 use Prim.Native.Nat.{ℕ, suc}
 use mathlib.Core.List.{List, [], _∷_, _++_}
 use Rattle.rules.specs.Terms.{Term, var, app, Terms, nil, cons}
 use Rattle.rules.specs.Syntax.{Symbol, functor, predicate, Literal, pos, neg, Clause, Deck}
 use Rattle.rules.specs.Listing.{decimal}
-use Rattle.rules.specs.TextGrammar.{fnText, prText}
+use Rattle.text_rules.specs.TextGrammar.{fnText, prText}
 
 -- `s` and the symbol's number.
 unfoldable pub nameText : ℕ → List ℕ → List ℕ
