@@ -7,6 +7,7 @@
  *   4  a clause over 256 cells          9  the scratch has under 8,192 words
  *   5  a clause that is not a head and literals, or whose variables are misnumbered
  *  10  a text that cannot be read     11  a result longer than the lent list, or a deck that was read and has over 16,384 words
+ *  12  the store does not begin with the open goals that are said to be there
  * Checks go in number order (reading a text: 10, 11, then 1 to 5), each over everything before the next.
  *
  * A length is a number of words, or of bytes for text. A pointer may be anything where its length is 0, but not null; nor may a pointer to
@@ -53,6 +54,20 @@ uint32_t leads_read_text(const uint8_t *text, size_t text_bytes, uint16_t *deck,
  * text, of text_bytes bytes; the bytes after it are untouched. A line for each symbol, `fn s0/0.` or `pr s4/1.`, then one for each clause,
  * as `s4(_0) :- s2(_0), ~s3(_0).`; each ends in byte 10. */
 uint32_t leads_write_text(const uint16_t *deck, size_t deck_words, uint8_t *text, size_t text_room, size_t *text_bytes);
+
+/* Carries on from the goals at the start of the store: refusals 1 to 5, 8, 9 and 12. pending and parked are their numbers, as the run before
+ * has returned them, and terms is the number of answer terms of each: for the goals of a query, the number of its variables. To carry on,
+ * pass the same deck, the store as it was left (or a store of another length that begins with its goals) and a new budget, and take the
+ * answers of all runs together: each lists its own from the start of its list. Any store may be passed that begins with that many goals:
+ * pending ones marked 0, then parked ones marked 1 to 4, each of that many answer terms and 1,024 words or fewer, its variables numbered by
+ * first appearance, answer terms first; else it is refused with 12. Pending goals go on, parked ones stay parked, with new ones behind them.
+ * A "not" that was cut short has left its goal first and pending, as it was, and is done again from its start: so the steps of the runs need
+ * not add up to those of one run, and with a budget too small for the whole "not" nothing moves. The results are as those of leads_run:
+ * steps and answer_count of this call, pending_after and parked_after the numbers of goals that the store begins with now. */
+uint32_t leads_continue(const uint16_t *deck, size_t deck_words, uint64_t pending, uint64_t parked, uint64_t terms, uint32_t budget,
+                        uint16_t *answers, size_t answer_words, uint16_t *store, size_t store_words, uint16_t *scratch,
+                        size_t scratch_words, uint32_t *stop, uint32_t *steps, uint64_t *answer_count, uint32_t *pending_after,
+                        uint32_t *parked_after);
 
 #ifdef __cplusplus
 }

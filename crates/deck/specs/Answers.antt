@@ -4,7 +4,7 @@ use mathlib.Core.Bool.{Bool, true, false}
 use mathlib.Core.Option.{Option, none, some}
 use Rattle.rules.specs.Refusals as rules
 use Rattle.deck.specs.declared.Refusal.{Refusal}
-use Rattle.deck.specs.declared.Refusal.the-variants.{Header, Symbol, Starts, LongClause, Clause, LongQuery, Query, Store, Scratch, Text, Room}
+use Rattle.deck.specs.declared.Refusal.the-variants.{Header, Symbol, Starts, LongClause, Clause, LongQuery, Query, Store, Scratch, Text, Room, Goals}
 use Rattle.deck.specs.declared.Checked.{Checked}
 use Rattle.deck.specs.declared.Checked.the-variants.{Accepted, Refused}
 
@@ -20,6 +20,7 @@ refusalFor Store = rules.badStore
 refusalFor Scratch = rules.badScratch
 refusalFor Text = rules.badText
 refusalFor Room = rules.noRoom
+refusalFor Goals = rules.badGoals
 
 abbrev pub numberOf : Checked → ℕ
 numberOf Accepted = 0

@@ -26,6 +26,7 @@ pub enum Refusal {
     Scratch,
     Text,
     Room,
+    Goals,
 }
 
 pub enum Checked {
@@ -58,6 +59,7 @@ fn refusal_number(why: Refusal) -> u32
         Refusal::Scratch => 9,
         Refusal::Text => 10,
         Refusal::Room => 11,
+        Refusal::Goals => 12,
     }
 }
 

@@ -1,2 +1,4 @@
 pub mod RunLaws
+pub mod CarryLaws
 pub mod PublicRun
+pub mod PublicCarry

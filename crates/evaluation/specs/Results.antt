@@ -1,20 +1,22 @@
 -- The checks and the result of the public run as the rules': a refusal, or the report.
 use Prim.Native.Nat.{ℕ}
-use mathlib.Core.Bool.{_&&_}
+use mathlib.Core.Path.{_≡_}
 use mathlib.Core.List.{List}
-use lib.Dec.{leb}
 use Rattle.rules.specs.Refusals as rules
 use Rattle.rules.specs.Run as run
+use Rattle.rules.specs.Syntax.{Symbol, Deck, Goal}
+use Rattle.rules.specs.Goals.{Marked}
+use Rattle.rules.specs.Decks.{openDeck}
+use Rattle.rules.specs.Stored.{OpenGoals}
 use Rattle.report.specs.Reports.{reportOf}
 use Rattle.deck.specs.Answers.{refusalFor}
+use Rattle.top_level.specs.Top.{InOrder}
 use Rattle.deck.specs.declared.Checked.{Checked}
 use Rattle.deck.specs.declared.Checked.the-variants.{Accepted, Refused as Rejected}
 use Rattle.evaluation.specs.declared.Ran.{Ran}
 use Rattle.evaluation.specs.declared.Ran.the-variants.{Refused, Done}
-
--- The checks of the two sizes, as the rules' run makes them.
-abbrev pub checkSizes : ℕ → ℕ → rules.Checked (Unit {0})
-checkSizes storeSize scratchSize = rules.andThen (rules.require rules.badStore (leb 1024 storeSize && leb storeSize 65535)) (λ _. rules.require rules.badScratch (leb 8192 scratchSize))
+use Rattle.evaluation.specs.declared.carry.Carried.{Carried}
+use Rattle.evaluation.specs.declared.carry.Carried.the-variants.{Refused as Reject, Goals}
 
 -- Of two checks, the first that refuses.
 abbrev pub firstRefusal : Checked → Checked → Checked
@@ -25,6 +27,25 @@ firstRefusal (Rejected why) second = Rejected why
 abbrev pub resultOf : Ran → rules.Checked run.Report
 resultOf (Refused why) = rules.refused (refusalFor why)
 resultOf (Done r) = rules.accepted (reportOf r)
+
+-- What check 12 comes to: its refusal, or the open goals in order, the pending ones up to `held` and all of them up to `end`.
+abbrev pub OpenAs : List Symbol → rules.Checked OpenGoals → List ℕ → Carried → Type 0
+OpenAs S c store (Reject why) = c ≡ rules.refused (refusalFor why)
+OpenAs S c store (Goals held end) = (o : OpenGoals) × (c ≡ rules.accepted o) × InOrder S store held end (o .pending) (o .parked)
+
+-- What all checks before a run that carries on come to.
+abbrev pub CarriedAs : rules.Checked run.Carried → List ℕ → Carried → Type 0
+CarriedAs c store (Reject why) = c ≡ rules.refused (refusalFor why)
+CarriedAs c store (Goals held end) =
+    (x : run.Carried) × (c ≡ rules.accepted x) × InOrder (x .deck .symbols) store held end (x .goals .pending) (x .goals .parked)
+
+-- An opened deck, and goals in order over its symbols, whatever they are.
+pub record SomeInOrder (deckWords store : List ℕ) (held end : ℕ) : Type 0 where
+  pub deck : Deck
+  pub goals : List Goal
+  pub parkedGoals : List Marked
+  pub opens : openDeck deckWords ≡ rules.accepted deck
+  pub inOrder : InOrder (deck .symbols) store held end goals parkedGoals
 
 abbrev pub slices : List ℕ → List ℕ → List ℕ → run.Slices
 slices answers store scratch = record { answers = answers; store = store; scratch = scratch }

@@ -2,13 +2,20 @@
 ghost use mathlib.Core.Path.{_≡_};
 ghost use Prim.Native.Nat.{ℕ, _≤_};
 ghost use lib.ListN.{length};
-ghost use Rattle.rules.specs.Refusals.{checkedNumber};
-ghost use Rattle.rules.specs.Run.{run};
+ghost use Rattle.rules.specs.Refusals.{accepted, checkedNumber};
+ghost use Rattle.rules.specs.Run.{run, checkSizes};
 ghost use Rattle.deck.specs.Answers.{numberOf};
-ghost use Rattle.evaluation.specs.Results.{checkSizes, firstRefusal, resultOf, slices};
+ghost use mathlib.Core.List.{List};
+ghost use Rattle.rules.specs.Syntax.{Deck, Goal};
+ghost use Rattle.rules.specs.Goals.{Marked};
+ghost use Rattle.rules.specs.Decks.{openDeck};
+ghost use Rattle.top_level.specs.Top.{Stored, opening, SomeOpening, Topped};
+ghost use Rattle.evaluation.specs.Results.{firstRefusal, resultOf, slices};
 use deck::Checked;
 use deck::Refusal;
 use report::Report;
+
+pub mod carry;
 
 // What a run returns: a refusal, or its report.
 pub enum Ran {
@@ -81,15 +88,33 @@ fn accepted(
     requires { ⌜ checkedNumber (run (now deck) (now query) budget (length (now answers)) (length (now store)) (length (now scratch))) ≡ 0 ⌝ }
     ensures { λ r. ⌜ Rattle.rules.specs.Run.Ran (now (deck .entry)) (now (query .entry)) budget (slices (now (answers .entry)) (now (store .entry)) (now (scratch .entry))) (resultOf (Ran.Done r)) (slices (now (answers .exit)) (now (store .exit)) (now (scratch .exit))) ⌝ }
 {
+    let held = top_level::first(query, store);
+    from_goals(deck, 0, held, budget, answers, store, scratch)
+}
+
+// The evaluation from goals that are stored as a run holds them.
+fn from_goals(
+    deck: &[u16],
+    parked: usize,
+    held: usize,
+    budget: u32,
+    answers: &mut [u16],
+    store: &mut [u16],
+    scratch: &mut [u16],
+) -> Report
+    requires { ⌜ SomeOpening (now deck) (now store) parked held ⌝ }
+    requires { ⌜ (8192 ≤ length (now scratch)) × (length (now store) ≤ 65535) ⌝ }
+    ensures { λ r. ⌜ ((d : Deck) (gs : List Goal) (ms : List Marked) → openDeck (now (deck .entry)) ≡ accepted d → Stored (d .symbols) (now (store .entry)) parked held (opening gs ms) → Topped d (now (answers .entry)) (now (store .entry)) gs ms budget (now (answers .exit)) (now (store .exit)) r) ⌝ }
+{
     let mut table = [0u16; 3840];
     let mut draft = [65535u16; 3584];
     let mut index = [65535u16; 12288];
     matching::bindings::clear(&mut table);
     clauses::fill_index(deck, &mut index);
-    let start = top_level::first(query, store);
     top_level::top(
         deck,
-        start,
+        parked,
+        held,
         budget,
         answers,
         store,

@@ -1,10 +1,10 @@
--- What the run's call from C promises: the public run's contract, and the numbers that it leaves behind the pointers.
+-- What the calls from C promise that run: the public runs' contracts, and the numbers that they leave behind the pointers.
 use Prim.Native.Nat.{ℕ}
 use mathlib.Core.Path.{_≡_}
 use mathlib.Core.List.{List}
 use Rattle.rules.specs.Refusals.{refusalNumber, Checked, refused, accepted}
-use Rattle.rules.specs.Evaluation.{stopNumber}
-use Rattle.rules.specs.Run.{Report, Slices, Ran}
+use Rattle.rules.specs.Evaluation.{Outcome, stopNumber}
+use Rattle.rules.specs.Run.{Report, Slices, Gives, runOn, carryFrom}
 
 pub record Numbers : Type 0 where
   pub stop : ℕ
@@ -24,7 +24,15 @@ abbrev pub Tells : Checked Report → Numbers → ℕ → Numbers → Type 0
 Tells (refused n) before r after = (r ≡ refusalNumber n) × (after ≡ before)
 Tells (accepted report) before r after = (r ≡ 0) × (after ≡ numbersOf report)
 
-pub record Called (deck query : List ℕ) (budget : ℕ) (entry : Slices) (before : Numbers) (r : ℕ) (exit : Slices) (after : Numbers) : Type 0 where
+-- A call for what the checks and the evaluation come to.
+pub record Calls (c : Checked Outcome) (entry : Slices) (before : Numbers) (r : ℕ) (exit : Slices) (after : Numbers) : Type 0 where
   pub result : Checked Report
-  pub ran : Ran deck query budget entry result exit
+  pub gives : Gives c entry result exit
   pub tells : Tells result before r after
+
+-- The calls for a run, and for one that carries on.
+abbrev pub Called : List ℕ → List ℕ → ℕ → Slices → Numbers → ℕ → Slices → Numbers → Type 0
+Called deck query budget entry = Calls (runOn deck query budget entry) entry
+
+abbrev pub CalledOn : List ℕ → ℕ → ℕ → ℕ → ℕ → Slices → Numbers → ℕ → Slices → Numbers → Type 0
+CalledOn deck pending parked terms budget entry = Calls (carryFrom deck pending parked terms budget entry) entry

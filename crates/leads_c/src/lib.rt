@@ -2,8 +2,8 @@
 ghost use mathlib.Core.Path.{_≡_};
 ghost use Rattle.rules.specs.Refusals.{checkedNumber};
 ghost use Rattle.rules.specs.Decks.{openDeck, checkQuery};
-ghost use Rattle.evaluation.specs.Results.{slices};
-ghost use Rattle.leads_c.specs.Calls.{Called, numbers};
+ghost use Rattle.evaluation.specs.Results.{resultOf, slices};
+ghost use Rattle.leads_c.specs.Calls.{Called, CalledOn, Tells, numbers};
 ghost use Rattle.leads_c.specs.TextCalls.{ReadCalled, WriteCalled};
 use deck::Checked;
 use deck::Refusal;
@@ -41,7 +41,53 @@ pub extern "C" fn leads_run(
 ) -> u32
     ensures { λ r. ⌜ Called (now (deck .entry)) (now (query .entry)) budget (slices (now (answers .entry)) (now (store .entry)) (now (scratch .entry))) (numbers (now (stop .entry)) (now (steps .entry)) (now («answer_count» .entry)) (now (pending .entry)) (now (parked .entry))) r (slices (now (answers .exit)) (now (store .exit)) (now (scratch .exit))) (numbers (now (stop .exit)) (now (steps .exit)) (now («answer_count» .exit)) (now (pending .exit)) (now (parked .exit))) ⌝ }
 {
-    match evaluation::run(deck, query, budget, answers, store, scratch) {
+    let ran = evaluation::run(deck, query, budget, answers, store, scratch);
+    told(ran, stop, steps, answer_count, pending, parked)
+}
+
+#[no_mangle]
+pub extern "C" fn leads_continue(
+    deck: &[u16],
+    pending: u64,
+    parked: u64,
+    terms: u64,
+    budget: u32,
+    answers: &mut [u16],
+    store: &mut [u16],
+    scratch: &mut [u16],
+    stop: &mut u32,
+    steps: &mut u32,
+    answer_count: &mut u64,
+    pending_after: &mut u32,
+    parked_after: &mut u32,
+) -> u32
+    ensures { λ r. ⌜ CalledOn (now (deck .entry)) pending parked terms budget (slices (now (answers .entry)) (now (store .entry)) (now (scratch .entry))) (numbers (now (stop .entry)) (now (steps .entry)) (now («answer_count» .entry)) (now («pending_after» .entry)) (now («parked_after» .entry))) r (slices (now (answers .exit)) (now (store .exit)) (now (scratch .exit))) (numbers (now (stop .exit)) (now (steps .exit)) (now («answer_count» .exit)) (now («pending_after» .exit)) (now («parked_after» .exit))) ⌝ }
+{
+    let ran = evaluation::carry::carry_on(
+        deck,
+        pending,
+        parked,
+        terms,
+        budget,
+        answers,
+        store,
+        scratch,
+    );
+    told(ran, stop, steps, answer_count, pending_after, parked_after)
+}
+
+// The number of a refusal, with the numbers as they were; or 0, with the report's.
+fn told(
+    ran: Ran,
+    stop: &mut u32,
+    steps: &mut u32,
+    answer_count: &mut u64,
+    pending: &mut u32,
+    parked: &mut u32,
+) -> u32
+    ensures { λ r. ⌜ Tells (resultOf ran) (numbers (now (stop .entry)) (now (steps .entry)) (now («answer_count» .entry)) (now (pending .entry)) (now (parked .entry))) r (numbers (now (stop .exit)) (now (steps .exit)) (now («answer_count» .exit)) (now (pending .exit)) (now (parked .exit))) ⌝ }
+{
+    match ran {
         Ran::Refused(why) => deck::number(Checked::Refused(why)),
         Ran::Done(report) => {
             let why = report.stop;

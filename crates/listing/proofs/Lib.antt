@@ -7,3 +7,4 @@ pub mod LineLaws
 pub mod AnswerLaws
 pub mod RunLaws
 pub mod PrintedLaws
+pub mod ByteLaws

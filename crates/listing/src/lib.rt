@@ -13,6 +13,7 @@ mod answers;
 pub mod input;
 mod lines;
 pub mod numbers;
+pub mod output;
 pub mod terms;
 pub mod text;
 

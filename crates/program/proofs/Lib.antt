@@ -1,2 +1,3 @@
+pub mod InputLaws
 pub mod PartLaws
 pub mod TextLaws

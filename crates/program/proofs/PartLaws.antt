@@ -1,60 +1,52 @@
 -- What the program's run comes to, test by test, and what the run on the program's buffers returns and leaves.
-use Prim.Native.Nat.{ℕ, _%_, _≤_, _<_}
-use mathlib.Core.Path.{_≡_, refl, ap, sym, _∙_, subst}
-use mathlib.Core.Bool.{Bool, true, false, false≢true}
+use Prim.Native.Nat.{ℕ}
+use mathlib.Core.Path.{_≡_, refl, ap, _∙_, subst}
+use mathlib.Core.Bool.{true}
+use mathlib.Core.Option.{Option}
 use mathlib.Core.List.{List}
 use native.Mathlib.Omega.{arith}
-use borrow.Author.Tests.{le-leb, lt-leb, eq-eqb, ne-eqb}
 use lib.ListN.{length}
 use Rattle.rules.specs.Syntax.{Deck}
-use Rattle.rules.specs.Refusals.{Refusal, badHeader, longQuery, badQuery, refusalNumber, Checked, refused, accepted, andThen, require, obtain, checkedNumber}
+use Rattle.rules.specs.Refusals.{Refusal, Checked, refused, accepted, andThen}
 use Rattle.rules.specs.Decks.{headerFits, openDeck}
 use Rattle.rules.specs.Evaluation.{Outcome}
 use Rattle.rules.specs.Run.{Report, report, returned, answersAfter, Slices, Filled, Leaves, runOn, Ran}
-use Rattle.rules.specs.Program.{wordsFrom, even, deckFile, queryInput, programRun}
+use Rattle.rules.specs.Program.{deckFile, queryInput, programRun}
+use Rattle.rules.specs.CarryProgram.{deckInput}
 use Rattle.rules.proofs.DeckLaws.{steps-open}
 use Rattle.rules.proofs.Demand3.{run-accepted}
-use Rattle.listing.specs.Printed.{fileOf, deckFits}
-use Rattle.program.specs.Runs.{wordsRun, askedRun, openedRun}
+use Rattle.program.specs.Runs.{wordsRun}
+use Rattle.program.proofs.InputLaws.{then-refused, then-next}
 
--- A number that is not 0 is that of a refusal.
-pub refusal-of : {A : Type 0} (x : Checked A) (number : ℕ) → number ≡ checkedNumber x → (number ≡ 0 → ⊥) → (n : Refusal) × (x ≡ refused n) × (refusalNumber n ≡ number)
-refusal-of (refused n) number e h = (n, refl, sym e)
-refusal-of (accepted a) number e h = absurd (h e)
+-- The run after the deck's refusals, and then those of the query's bytes.
+abbrev askedRun : List ℕ → List ℕ → Checked Outcome
+askedRun input deckWords = andThen (queryInput input) (λ queryWords. wordsRun deckWords queryWords)
 
--- The deck file.
-pub file-refused : (present : Bool) (bytes input : List ℕ) → deckFits present bytes ≡ false → programRun (fileOf present bytes) input ≡ refused badHeader
-unfolding programRun deckFile andThen require obtain
-file-refused true bytes input e = rw e
-file-refused false bytes input e = refl
+pub run-parts : (file : Option (List ℕ)) (input : List ℕ) → programRun file input ≡ andThen (deckInput file) (askedRun input)
+unfolding programRun deckInput andThen
+run-parts file input = go (deckFile file)
+  where
+    opened : (deckWords : List ℕ) (d : Checked Deck) → andThen d (λ _. askedRun input deckWords) ≡ andThen (andThen d (λ _. accepted deckWords)) (askedRun input)
+    opened deckWords (refused n) = refl
+    opened deckWords (accepted d) = refl
 
-pub file-opened : (present : Bool) (bytes input : List ℕ) → deckFits present bytes ≡ true → programRun (fileOf present bytes) input ≡ openedRun (wordsFrom bytes) input
-unfolding programRun deckFile openedRun askedRun andThen require obtain
-file-opened true bytes input e = rw e
-file-opened false bytes input e = absurd (false≢true e)
+    go : (c : Checked (List ℕ)) → andThen c (λ deckWords. andThen (openDeck deckWords) (λ _. askedRun input deckWords))
+        ≡ andThen (andThen c (λ deckWords. andThen (openDeck deckWords) (λ _. accepted deckWords))) (askedRun input)
+    go (refused n) = refl
+    go (accepted deckWords) = opened deckWords (openDeck deckWords)
 
--- The deck's words.
-module _ (deckWords input : List ℕ) where
-  pub deck-refused : (n : Refusal) → openDeck deckWords ≡ refused n → openedRun deckWords input ≡ refused n
-  unfolding openedRun andThen
-  deck-refused n e = rw e
+module _ (file : Option (List ℕ)) (input : List ℕ) where
+  pub deck-refused : (n : Refusal) → deckInput file ≡ refused n → programRun file input ≡ refused n
+  deck-refused n e = run-parts file input ∙ then-refused (deckInput file) (askedRun input) n e
 
-  pub deck-opened : (d : Deck) → openDeck deckWords ≡ accepted d → openedRun deckWords input ≡ askedRun deckWords input
-  unfolding openedRun andThen
-  deck-opened d e = rw e
+  module _ (deckWords : List ℕ) (d : deckInput file ≡ accepted deckWords) where
+    pub query-refused : (n : Refusal) → queryInput input ≡ refused n → programRun file input ≡ refused n
+    query-refused n e =
+        run-parts file input ∙ then-next (deckInput file) (askedRun input) deckWords d ∙ then-refused (queryInput input) (wordsRun deckWords) n e
 
-  -- The query's bytes.
-  pub query-long : 1000 < length input → askedRun deckWords input ≡ refused longQuery
-  unfolding askedRun queryInput andThen require
-  query-long h = rw (lt-leb (length input) 1000 h)
-
-  pub query-odd : length input ≤ 1000 → (length input % 2 ≡ 0 → ⊥) → askedRun deckWords input ≡ refused badQuery
-  unfolding askedRun queryInput even andThen require
-  query-odd h odd = rw (le-leb (length input) 1000 h, ne-eqb (length input % 2) 0 odd)
-
-  pub query-words : length input ≤ 1000 → length input % 2 ≡ 0 → askedRun deckWords input ≡ wordsRun deckWords (wordsFrom input)
-  unfolding askedRun queryInput even andThen require
-  query-words h e = rw (le-leb (length input) 1000 h, eq-eqb (length input % 2) 0 e)
+    pub query-asked : (queryWords : List ℕ) → queryInput input ≡ accepted queryWords → programRun file input ≡ wordsRun deckWords queryWords
+    query-asked queryWords e =
+        run-parts file input ∙ then-next (deckInput file) (askedRun input) deckWords d ∙ then-next (queryInput input) (wordsRun deckWords) queryWords e
 
 -- The run on the program's buffers.
 pub record Buffers (s : Slices) : Type 0 where
@@ -62,12 +54,12 @@ pub record Buffers (s : Slices) : Type 0 where
   pub store : length (s .store) ≡ 16384
   pub scratch : length (s .scratch) ≡ 8192
 
-returned-refused : (x : Checked Outcome) (n : Refusal) → refused n ≡ returned x → x ≡ refused n
+pub returned-refused : (x : Checked Outcome) (n : Refusal) → refused n ≡ returned x → x ≡ refused n
 unfolding returned
 returned-refused (refused m) n e = let q : m ≡ n = cc in ap refused q
 returned-refused (accepted o) n e = absurd (let z : _≡_ {A = ℕ} 0 1 = cc in omega arith)
 
-returned-accepted : (x : Checked Outcome) (r : Report) → accepted r ≡ returned x → (o : Outcome) × (x ≡ accepted o) × (r ≡ report o)
+pub returned-accepted : (x : Checked Outcome) (r : Report) → accepted r ≡ returned x → (o : Outcome) × (x ≡ accepted o) × (r ≡ report o)
 unfolding returned
 returned-accepted (refused m) r e = absurd (let z : _≡_ {A = ℕ} 0 1 = cc in omega arith)
 returned-accepted (accepted o) r e = let q : r ≡ report o = cc in (o, refl, q)

@@ -8,17 +8,17 @@ use mathlib.Core.List.{List, [], _∷_, _++_, append-nil}
 use mathlib.Core.Option.{some}
 use native.Mathlib.Omega.{arith}
 use lib.ListN.{length, drop, length-append, take-append-drop}
-use Rattle.rules.specs.Syntax.{Symbol, Literal, Deck, Goal, varsLiterals}
-use Rattle.rules.specs.Refusals.{badStore, badScratch, Checked, refused, accepted, andThen, require}
+use Rattle.rules.specs.Syntax.{Literal, Deck, varsLiterals}
+use Rattle.rules.specs.Refusals.{Checked, refused, accepted, andThen}
 use Rattle.rules.specs.Decks.{openDeck, readQuery}
 use Rattle.rules.specs.Goals.{Marked, unmarked, writeGoals, readGoals, queryVariables, firstGoal}
 use Rattle.rules.specs.Evaluation.{Outcome, evaluate}
-use Rattle.rules.specs.Run.{run, Report, report, returned, answersAfter, storeStart, Slices, Filled, Leaves, runOn, Ran}
+use Rattle.rules.specs.Run.{checkSizes, run, Report, report, returned, answersAfter, storeStart, Slices, Filled, Leaves, runOn, Ran}
 use Rattle.rules.specs.Meaning.{Inds, Interpretation, Satisfies, individuals, QueryHolds, SomeCovers}
 use Rattle.rules.specs.ThreeValues.{_≈_, Interpretation3, Satisfies3, queryValue, goalsValue, ExcludedMiddle}
 use Rattle.rules.specs.Demand.{Read, Covered, Valued, Known, Said, Demand3}
 use Rattle.rules.specs.WellFormed.{All, InOrder, WfGoal, WfMarked}
-use Rattle.rules.proofs.ListLaws.{all-append, length-unmarked}
+use Rattle.rules.proofs.ListLaws.{all-append, unmarked-all, length-unmarked}
 use Rattle.rules.proofs.GoalLaws.{read-goals}
 use Rattle.rules.proofs.DeckLaws.{opened-written, query-reads}
 use Rattle.rules.proofs.FirstGoal.{firstGoal-wf}
@@ -36,7 +36,7 @@ pub record Accepted (deckWords queryWords : List ℕ) (budget answerRoom storeSi
   pub asks : readQuery deck queryWords ≡ accepted query
   pub evaluates : o ≡ evaluate deck answerRoom storeSize (firstGoal query ∷ []) [] budget
 
-passed : {A B : Type 0} {b : B} (c : Checked A) (next : A → Checked B) → andThen c next ≡ accepted b → (a : A) × (c ≡ accepted a) × (next a ≡ accepted b)
+pub passed : {A B : Type 0} {b : B} (c : Checked A) (next : A → Checked B) → andThen c next ≡ accepted b → (a : A) × (c ≡ accepted a) × (next a ≡ accepted b)
 unfolding andThen
 passed (refused n) next e = absurd (let z : _≡_ {A = ℕ} 0 1 = cc in omega arith)
 passed (accepted a) next e = (a, refl, e)
@@ -48,18 +48,11 @@ unfolding run
 run-accepted deckWords queryWords budget answerRoom storeSize scratchSize o e =
     let d = passed (openDeck deckWords) _ e in
     let q = passed (readQuery (d .0) queryWords) _ (d .2) in
-    let s = passed (require badStore _) _ (q .2) in
-    let t = passed (require badScratch _) _ (s .2) in
+    let s = passed (checkSizes storeSize scratchSize) _ (q .2) in
     record { deck = d .0; query = q .0; opens = d .1; asks = q .1; evaluates = cc }
 
--- What holds of goals holds of them with mark 0.
-unmarked-all : (P : Goal → Type 0) (gs : List Goal) → All P gs → All (λ m. P (m .goal)) (unmarked gs)
-unmarked-all P [] w = tt
-unmarked-all P (g ∷ gs) w = (w .0, unmarked-all P gs (w .1))
-
 -- Goals that are well formed are read from words that begin with their writing.
-
-left-read :
+pub left-read :
     (deck : Deck) (o : Outcome) (entry exit : Slices) → OutcomeHas (WellFormed (deck .symbols)) o → All Bare (o .answers) → Filled o entry exit
     → Read deck (report o) exit (unmarked (o .answers)) (unmarked (o .pending) ++ o .parked)
 unfolding report answersAfter storeStart

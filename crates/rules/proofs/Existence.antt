@@ -84,3 +84,6 @@ into-behind X P Q xs ys zs i = (
   λ h. elim (some-split P xs ys h) [ inl k ↦ X .unit (some-left P xs zs k) | inr k ↦ X .bind (i .0 k) (λ m. X .unit (some-right P xs zs m)) ],
   λ h. elim (some-split Q xs zs h) [ inl k ↦ some-left Q xs ys k | inr k ↦ some-right Q xs ys (i .1 k) ],
 )
+
+pub some-behind {ℓ} : {A : Type ℓ} (P : A → Type 0) (xs ys zs : List A) → (∥ Some P ys ∥₁ → ∥ Some P zs ∥₁) → ∥ Some P (xs ++ ys) ∥₁ → ∥ Some P (xs ++ zs) ∥₁
+some-behind P xs ys zs f h = ∥∥₁-elim h ∥∥₁-prop (λ k. elim (some-split P xs ys k) [ inl a ↦ ∣ some-left P xs zs a ∣₁ | inr b ↦ ∥∥₁-map (f ∣ b ∣₁) (some-right P xs zs) ])

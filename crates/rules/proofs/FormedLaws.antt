@@ -39,7 +39,7 @@ keep-all P none gs h k = k
 keep-all P (some g) gs h k = (h, k)
 
 module _ (P : Goal → Type 0) (Q : Clause → Type 0) where
-  collect-all :
+  pub collect-all :
       (by : Clause → Option Goal) → ((c : Clause) → Q c → Perhaps P (by c)) → (cs : List Clause) → All Q cs → All P (collect by cs)
   unfolding collect
   collect-all by h [] k = tt

@@ -33,6 +33,10 @@ pub mod LevelSound
 pub mod Cover
 pub mod Continued
 pub mod Demand3
+-- Open goals in a store.
+pub mod StoredLaws
+pub mod CarryTable
+pub mod Carried
 -- Three values.
 pub mod ValueLaws
 pub mod Fitting

@@ -39,6 +39,11 @@ pub all-map {ℓ κ} : {A : Type ℓ} {B : Type κ} (P : B → Type 0) (f : A �
 all-map P f [] a = tt
 all-map P f (x ∷ xs) a = (a .0, all-map P f xs (a .1))
 
+-- What holds of goals holds of them with mark 0.
+pub unmarked-all : (P : Goal → Type 0) (gs : List Goal) → All P gs → All (λ m. P (m .goal)) (unmarked gs)
+unmarked-all P [] w = tt
+unmarked-all P (g ∷ gs) w = (w .0, unmarked-all P gs (w .1))
+
 pub length-unmarked : (gs : List Goal) → length (unmarked gs) ≡ length gs
 length-unmarked [] = refl
 length-unmarked (g ∷ gs) = ap suc (length-unmarked gs)

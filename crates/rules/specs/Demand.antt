@@ -8,7 +8,8 @@ use lib.ListN.{length}
 use Rattle.rules.specs.Syntax.{Literal, Deck}
 use Rattle.rules.specs.Refusals.{accepted}
 use Rattle.rules.specs.Decks.{openDeck, readQuery}
-use Rattle.rules.specs.Goals.{Marked, queryVariables, readGoals}
+use Rattle.rules.specs.Goals.{Marked, unmarked, queryVariables, readGoals}
+use Rattle.rules.specs.Stored.{OpenGoals, readOpen}
 use Rattle.rules.specs.Run.{Report, Slices}
 use Rattle.rules.specs.WellFormed.{All}
 use Rattle.rules.specs.Meaning.{Inds, Interpretation, Satisfies, individuals, QueryHolds, SomeCovers}
@@ -54,3 +55,30 @@ pub record Said (Statement : Deck → List Literal → List Marked → List Mark
 -- Demand 3.
 abbrev pub Demand3 : List ℕ → List ℕ → Report → Slices → Type 1
 Demand3 = Said Covered
+
+-- The three statements of the goals before and after (U4): "holds" means that one of the goals before covers the choice.
+abbrev pub CoveredFrom : Deck → List Marked → List Marked → Type 1
+CoveredFrom deck before after =
+    (I : Interpretation) → Satisfies I deck → (choice : Inds) → SomeCovers I choice before ↔ SomeCovers I choice after
+
+abbrev pub ValuedFrom : Deck → List Marked → List Marked → Type 1
+ValuedFrom deck before after =
+    (I : Interpretation3) → Satisfies3 I deck → (choice : Inds) → goalsValue I choice before ≈ goalsValue I choice after
+
+abbrev pub KnownFrom : Deck → List Marked → List Marked → Type 1
+KnownFrom deck before after =
+    (I : Interpretation3) → Satisfies3 I deck → (choice : Inds) → goalsValue I choice before ⊑ goalsValue I choice after
+
+-- Such a statement of a run that carries on: the goals that the store began with stand in place of the query.
+pub record SaidOn (Statement : Deck → List Marked → List Marked → Type 1) (deckWords : List ℕ) (pending parked terms : ℕ) (entry : Slices) (r : Report) (exit : Slices) : Type 1 where
+  pub deck : Deck
+  pub before : OpenGoals
+  pub listed : List Marked
+  pub leftOpen : List Marked
+  pub opens : openDeck deckWords ≡ accepted deck
+  pub carries : readOpen (deck .symbols) pending parked terms (entry .store) ≡ some before
+  pub reads : Read deck r exit listed leftOpen
+  pub covered : Statement deck (unmarked (before .pending) ++ before .parked) (listed ++ leftOpen)
+
+abbrev pub DemandOn : List ℕ → ℕ → ℕ → ℕ → Slices → Report → Slices → Type 1
+DemandOn = SaidOn CoveredFrom

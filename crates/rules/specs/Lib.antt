@@ -9,10 +9,12 @@ pub mod WellFormed
 pub mod Unification
 pub mod Resolution
 pub mod Evaluation
+pub mod Stored
 pub mod Run
 pub mod Meaning
 pub mod ThreeValues
 pub mod Demand
 pub mod Listing
 pub mod Program
+pub mod CarryProgram
 pub mod All

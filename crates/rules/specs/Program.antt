@@ -1,5 +1,5 @@
 -- What the program prints for the bytes of its two inputs (document 01, "The printed listing").
-use Prim.Native.Nat.{ℕ, _+_, _*_, _%_}
+use Prim.Native.Nat.{ℕ, _+_, _*_, _/_, _%_}
 use mathlib.Core.Bool.{Bool, _&&_}
 use mathlib.Core.Option.{Option}
 use mathlib.Core.List.{List, [], _∷_}
@@ -16,6 +16,11 @@ unfoldable pub wordsFrom : List ℕ → List ℕ
 wordsFrom [] = []
 wordsFrom (low ∷ []) = []
 wordsFrom (low ∷ high ∷ bytes) = (low + 256 * high) ∷ wordsFrom bytes
+
+-- The bytes of words, low byte first.
+unfoldable pub bytesFrom : List ℕ → List ℕ
+bytesFrom [] = []
+bytesFrom (word ∷ words) = (word % 256) ∷ (word / 256) ∷ bytesFrom words
 
 unfoldable pub even : List ℕ → Bool
 even bytes = eqb (length bytes % 2) 0

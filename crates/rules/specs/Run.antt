@@ -5,19 +5,44 @@ use mathlib.Core.Bool.{_&&_}
 use mathlib.Core.List.{List, [], _∷_, _++_}
 use lib.ListN.{length, take, drop}
 use lib.Dec.{leb}
-use Rattle.rules.specs.Refusals.{badStore, badScratch, Checked, refused, accepted, andThen as _>>=_, require}
+use Rattle.rules.specs.Refusals.{badStore, badScratch, badGoals, Checked, refused, accepted, andThen as _>>=_, require, obtain}
 use Rattle.rules.specs.Decks.{openDeck, readQuery}
+use Rattle.rules.specs.Syntax.{Deck}
 use Rattle.rules.specs.Goals.{unmarked, writeGoals, firstGoal}
+use Rattle.rules.specs.Stored.{OpenGoals, readOpen}
 use Rattle.rules.specs.Evaluation.{Stop, Outcome, evaluate}
+
+-- The sizes of the store and the scratch.
+unfoldable pub checkSizes : ℕ → ℕ → Checked (Unit {0})
+checkSizes storeSize scratchSize = do
+  _ ← require badStore (leb 1024 storeSize && leb storeSize 65535)
+  require badScratch (leb 8192 scratchSize)
 
 -- The deck's and the query's words, the budget, and the lengths of the answer list, the store and the scratch.
 unfoldable pub run : List ℕ → List ℕ → ℕ → ℕ → ℕ → ℕ → Checked Outcome
 run deckWords queryWords budget answerRoom storeSize scratchSize = do
   deck ← openDeck deckWords
   query ← readQuery deck queryWords
-  _ ← require badStore (leb 1024 storeSize && leb storeSize 65535)
-  _ ← require badScratch (leb 8192 scratchSize)
+  _ ← checkSizes storeSize scratchSize
   accepted (evaluate deck answerRoom storeSize (firstGoal query ∷ []) [] budget)
+
+-- The deck and the open goals in the store, for a run that carries on (U4): their two counts, and the number of answer terms.
+pub record Carried : Type 0 where
+  pub deck : Deck
+  pub goals : OpenGoals
+
+unfoldable pub carry : List ℕ → ℕ → ℕ → ℕ → List ℕ → ℕ → Checked Carried
+carry deckWords pending parked terms storeWords scratchSize = do
+  deck ← openDeck deckWords
+  _ ← checkSizes (length storeWords) scratchSize
+  goals ← obtain badGoals (readOpen (deck .symbols) pending parked terms storeWords)
+  accepted (record { deck = deck; goals = goals })
+
+-- A run that carries on: the budget and the lengths of the answer list and the store come after what is carried.
+unfoldable pub carryOn : Checked Carried → ℕ → ℕ → ℕ → Checked Outcome
+carryOn carried budget answerRoom storeSize = do
+  c ← carried
+  accepted (evaluate (c .deck) answerRoom storeSize (c .goals .pending) (c .goals .parked) budget)
 
 -- An accepted run returns the stop, steps used over all levels, and the numbers of answers, pending and parked goals.
 pub record Report : Type 0 where
@@ -61,12 +86,22 @@ unfoldable pub Leaves : Checked Outcome → Slices → Slices → Type 0
 Leaves (refused n) entry exit = exit ≡ entry
 Leaves (accepted o) entry exit = Filled o entry exit
 
--- The run on the slices that were lent.
+-- The run on the slices that were lent; and the run that carries on from the open goals in the store.
 unfoldable pub runOn : List ℕ → List ℕ → ℕ → Slices → Checked Outcome
 runOn deckWords queryWords budget s =
     run deckWords queryWords budget (length (s .answers)) (length (s .store)) (length (s .scratch))
 
+unfoldable pub carryFrom : List ℕ → ℕ → ℕ → ℕ → ℕ → Slices → Checked Outcome
+carryFrom deckWords pending parked terms budget s =
+    carryOn (carry deckWords pending parked terms (s .store) (length (s .scratch))) budget (length (s .answers)) (length (s .store))
+
 -- All that a call promises: what it returns, and what it leaves in each slice.
-pub record Ran (deckWords queryWords : List ℕ) (budget : ℕ) (entry : Slices) (result : Checked Report) (exit : Slices) : Type 0 where
-  pub returns : result ≡ returned (runOn deckWords queryWords budget entry)
-  pub leaves : Leaves (runOn deckWords queryWords budget entry) entry exit
+pub record Gives (c : Checked Outcome) (entry : Slices) (result : Checked Report) (exit : Slices) : Type 0 where
+  pub returns : result ≡ returned c
+  pub leaves : Leaves c entry exit
+
+abbrev pub Ran : List ℕ → List ℕ → ℕ → Slices → Checked Report → Slices → Type 0
+Ran deckWords queryWords budget entry result exit = Gives (runOn deckWords queryWords budget entry) entry result exit
+
+abbrev pub RanOn : List ℕ → ℕ → ℕ → ℕ → ℕ → Slices → Checked Report → Slices → Type 0
+RanOn deckWords pending parked terms budget entry result exit = Gives (carryFrom deckWords pending parked terms budget entry) entry result exit

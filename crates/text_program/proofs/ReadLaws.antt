@@ -10,7 +10,8 @@ use borrow.Author.Tests.{le-leb, lt-leb}
 use Rattle.rules.specs.Refusals.{Refusal, noRoom, Checked, refused, accepted}
 use Rattle.rules.specs.Listing.{listing}
 use Rattle.text_rules.specs.Text.{badLeft, placeOf, badPlace, readText}
-use Rattle.text_rules.specs.TextProgram.{bytesFrom, placeLine, readPrints, readProgram}
+use Rattle.rules.specs.Program.{bytesFrom}
+use Rattle.text_rules.specs.TextProgram.{placeLine, readPrints, readProgram}
 use Rattle.deck.specs.declared.Refusal.{Refusal as Why}
 use Rattle.deck.specs.Answers.{refusalFor}
 use Rattle.reading.specs.declared.Read.the-variants.{Words, Unreadable, Refused}

@@ -4,6 +4,7 @@ ghost use Rattle.listing.specs.Printed.{fileOf, Printed};
 use deck::Checked;
 use listing::input::deck_fits;
 use listing::input::read_words;
+use listing::output::put_words;
 use listing::put_refusal;
 use reading::Read;
 use writing::Written;
@@ -19,7 +20,7 @@ pub fn read_printed(text: &[u8], out: &mut [u8; 32768]) -> usize
     }
     let mut words = [0u16; 16384];
     match reading::read_text(text, &mut words) {
-        Read::Words(n) => output::put_words(out, &words[..n]),
+        Read::Words(n) => put_words(out, 0, &words[..n]),
         Read::Unreadable(place) => output::put_place(out, place),
         Read::Refused(why) => put_refusal(out, deck::number(Checked::Refused(why))),
     }

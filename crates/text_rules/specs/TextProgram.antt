@@ -1,5 +1,5 @@
 -- What the two programs over texts print for the bytes of their input (document 02, U1).
-use Prim.Native.Nat.{ℕ, _/_, _%_}
+use Prim.Native.Nat.{ℕ}
 use mathlib.Core.Bool.{true, false}
 use mathlib.Core.Option.{Option, none, some}
 use mathlib.Core.List.{List, [], _∷_, _++_}
@@ -7,13 +7,8 @@ use lib.ListN.{length}
 use lib.Dec.{leb}
 use Rattle.rules.specs.Refusals.{badText, noRoom, refusalNumber, Checked, refused, accepted, andThen as _>>=_}
 use Rattle.rules.specs.Listing.{refusedText, decimal, listing}
-use Rattle.rules.specs.Program.{deckFile}
+use Rattle.rules.specs.Program.{deckFile, bytesFrom}
 use Rattle.text_rules.specs.Text.{badPlace, readText, writeText}
-
--- The bytes of words, low byte first.
-unfoldable pub bytesFrom : List ℕ → List ℕ
-bytesFrom [] = []
-bytesFrom (word ∷ words) = (word % 256) ∷ (word / 256) ∷ bytesFrom words
 
 -- `refused 10 ` and the place.
 unfoldable pub placeLine : ℕ → List ℕ

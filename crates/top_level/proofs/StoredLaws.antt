@@ -8,15 +8,15 @@ use lib.Seq.{take-at, drop-at, set-at, getD-at, take-add, take-all, take-length,
 use borrow.Rule.Slice.PartMut.{midOf, putMid}
 use Rattle.rules.specs.Terms.{sizes}
 use Rattle.rules.specs.Syntax.{Symbol, Goal}
-use Rattle.rules.specs.Goals.{Mark, pending, floundered, undecided, oversized, deep, markNumber, marked, unmarked, goalCells, goalWords, writeGoal, writeGoals, wordsOf, markedWords}
+use Rattle.rules.specs.Goals.{Mark, Marked, pending, floundered, undecided, oversized, deep, markNumber, marked, unmarked, goalCells, goalWords, writeGoal, writeGoals, wordsOf, markedWords}
 use Rattle.rules.specs.WellFormed.{All, WfGoal, WfMarked}
 use Rattle.rules.specs.Evaluation.{Level, zeroth, withPending, withParked, withAnswer}
 use Rattle.rules.proofs.ListLaws.{all-snoc, length-unmarked}
 use Rattle.rules.proofs.GoalLaws.{goals-length, unmarked-words, goals-append, markedWords-append}
-use Rattle.words.proofs.StoreLaws.{rev, parked-on, turned, read-first}
+use Rattle.words.proofs.StoreLaws.{rev, rev-fronted, parked-on, turned, read-first}
 use Rattle.goals.specs.Store.{Holding}
 use Rattle.levels.specs.Levels.{Stands}
-use Rattle.top_level.specs.Top.{Stored, Written, Ordered}
+use Rattle.top_level.specs.Top.{Stored, Written, Ordered, InOrder, opening}
 use Rattle.top_level.specs.declared.Counts.{Counts}
 use Rattle.goals.proofs.HeldLaws.{pendingWords, goals-first, cells-length, held-words, first-length, rest-held, still-held, first-of}
 
@@ -53,6 +53,22 @@ pub stored-first : {S : List Symbol} {store : List ℕ} {held : ℕ} {gs : List 
     → Stored S store 0 held (record { pending = gs; parked = []; answers = [] })
 unfolding writeGoals
 stored-first h = record { inside = omega arith; first = refl; parkedFormed = tt; pending = h }
+
+-- Goals in order, with the parked ones reversed and then all of them, are stored.
+pub resumed : {S : List Symbol} {store : List ℕ} {held end : ℕ} {gs : List Goal} {ms : List Marked} → InOrder S store held end gs ms
+    → (t : List ℕ) → t ≡ rev 0 end (rev held end store) → Stored S t (end - held) held (opening gs ms)
+resumed {S} {store} {held} {end} {gs} {ms} o t e =
+    let ys = writeGoals (unmarked gs) in
+    let ps = writeGoals ms in
+    let ly : length ys ≡ held = goals-length (unmarked gs) ∙ unmarked-words gs ∙ sym (o .pendingWords) in
+    let lp : held + length ps ≡ end = omega (arith, goals-length ms, o .parkedWords) in
+    let one = rev-fronted store ys ps held end ly lp (o .begins ∙ goals-append (unmarked gs) ms) in
+    let n : 0 + length (ys ++ reverse ps) ≡ end = omega (arith, length-append ys (reverse ps), length-reverse ps) in
+    let two = rev-fronted (rev held end store) [] (ys ++ reverse ps) 0 end refl n (one .0) in
+    let all : reverse (ys ++ reverse ps) ≡ ps ++ reverse ys = rw (reverse-append ys (reverse ps), reverse-reverse) in
+    let words : t ≡ ps ++ (reverse ys ++ drop end t) =
+    sym (take-append-drop end t) ∙ ap (_++ drop end t) (ap (take end) e ∙ two .0 ∙ all) ∙ append-assoc ps (reverse ys) (drop end t) in
+    stored-as S t (drop end t) (end - held) held (opening gs ms) words (omega (arith, o .parkedWords)) (o .pendingWords) (o .parkedFormed) (o .pendingFormed)
 
 module _ {S : List Symbol} {store : List ℕ} {parked held : ℕ} {l : Level} (h : Stored S store parked held l) where
   pub parked-words : parked ≡ markedWords (l .parked)

@@ -10,7 +10,7 @@ use borrow.Rule.Slice.PartMut.{midOf, putMid, same-len-mid}
 use Rattle.rules.specs.Syntax.{Symbol, Clause, Deck, Goal}
 use Rattle.rules.specs.Refusals.{accepted}
 use Rattle.rules.specs.Decks.{openDeck}
-use Rattle.rules.specs.Goals.{unmarked, goalWords, writeGoals, wordsOf, markedWords}
+use Rattle.rules.specs.Goals.{Marked, unmarked, goalWords, writeGoals, wordsOf, markedWords}
 use Rattle.rules.specs.Evaluation as rules
 use Rattle.rules.specs.Evaluation.{Level, zeroth, held, withPending, withParked, withAnswer, noLiterals, step, answerStep, actStep, checkStore, nextOf, ended, stopped, evaluateLevel}
 use Rattle.rules.proofs.GoalLaws.{goals-length, goals-append, unmarked-append, unmarked-words, wordsOf-append}
@@ -18,7 +18,7 @@ use Rattle.rules.proofs.LevelLaws.{level-empty, level-spent, level-halts, level
 use Rattle.report.specs.declared.Stop.the-variants.{Finished, Budget, Answers}
 use Rattle.goals.specs.Store.{Holding, SomeFirst, markOf}
 use Rattle.levels.specs.Levels.{Stands, Turned}
-use Rattle.top_level.specs.Top.{Stored, Ordered, Topped, Started, started, begun, evaluates, Lists, Goes, Stops, Bare, Waits, moved, Stepped, Due}
+use Rattle.top_level.specs.Top.{Stored, Ordered, Topped, Started, started, opening, begun, evaluates, Lists, Goes, Stops, Bare, Waits, moved, Stepped, Due}
 use Rattle.goals.specs.declared.Mark as declared
 use Rattle.top_level.specs.declared.Counts.{Counts}
 use Rattle.top_level.specs.declared.Progress.{Progress}
@@ -29,7 +29,7 @@ use Rattle.levels.specs.declared.Turn.{Turn}
 use Rattle.levels.specs.declared.Turn.the-variants.{Empty, Park, More, Stopped}
 use Rattle.goals.proofs.HeldLaws.{pendingWords, goals-first, cells-length, FirstOf, first-of, none-held}
 use Rattle.levels.proofs.StepLaws.{bare, within, next-is, one-less}
-use Rattle.top_level.proofs.StoredLaws.{part-all, put-all, stored-first, parked-words, stored-inside, stored-stands, put-back, kept-back, first-fits, first-word, first-copied, rest-stored}
+use Rattle.top_level.proofs.StoredLaws.{part-all, put-all, parked-words, stored-inside, stored-stands, put-back, kept-back, first-fits, first-word, first-copied, rest-stored}
 
 -- A GOAL WITHOUT LITERALS at level 0: it is listed, or there is no room for its words.
 module _ (clauses : List Clause) (answerRoom storeSize below : ℕ) (g : Goal) (gs : List Goal) (total used : ℕ) (pays : used < total) (l : Level)
@@ -53,16 +53,16 @@ module _ (clauses : List Clause) (answerRoom storeSize below : ℕ) (g : Goal) (
       level-halts clauses answerRoom storeSize below zeroth l (total - used) rules.answers
       (next ∙ rw (lt-leb (wordsOf (l .answers) + goalWords g) answerRoom f, answerStep))
 
-pub goes-first : {d : Deck} {answers store : List ℕ} {gs : List Goal} {budget start : ℕ} → Holding (d .symbols) store start gs
-    → Goes (started d answers store gs budget) answers store (record { parked = 0; held = start; used = 0; filled = 0; listed = 0 })
+pub goes-first : {d : Deck} {answers store : List ℕ} {gs : List Goal} {ms : List Marked} {budget parked held : ℕ} → Stored (d .symbols) store parked held (opening gs ms)
+    → Goes (started d answers store gs ms budget) answers store (record { parked = parked; held = held; used = 0; filled = 0; listed = 0 })
 unfolding writeGoals
-goes-first {d} {answers} {store} {gs} {budget} h =
-    let s = started d answers store gs budget in
+goes-first {d} {answers} {store} {gs} {ms} {budget} h =
+    let s = started d answers store gs ms budget in
     let n : budget ≡ budget - 0 = omega arith in
     record {
       level = begun s;
       same = ap (evaluates s (begun s)) n;
-      stored = stored-first h;
+      stored = h;
       lists = record { listed = refl; words = refl; counted = refl };
       size = refl;
       room = refl;
@@ -315,7 +315,7 @@ module _ (s : Started) (k : ℕ) (answers store : List ℕ) where
 -- The end, with the goals put in order.
 pub topped : {s : Started} {answers store : List ℕ} (e : End) (store′ : List ℕ) (c : Counts) → Stops s answers store e
     → ((l : Level) → Stored (s .deck .symbols) store (e .at .parked) (e .at .held) l → Ordered l store′ c)
-    → Topped (s .deck) (s .answers) (s .store) (s .goals) (s .budget) answers store′
+    → Topped (s .deck) (s .answers) (s .store) (s .goals) (s .parked) (s .budget) answers store′
     (record { stop = e .stop; steps = e .at .used; answers = e .at .listed; pending = c .pending; parked = c .parked })
 topped {s} e store′ c h o = record {
   level = h .level;

@@ -1,14 +1,15 @@
 -- Level 0 in the store: the parked goals from its start, in order of parking, then the pending goals as a mirror image.
-use Prim.Native.Nat.{ℕ, _-_, _≤_, _<_}
+use Prim.Native.Nat.{ℕ, _+_, _-_, _≤_, _<_}
 use mathlib.Core.Path.{_≡_}
 use mathlib.Core.Option.{some}
 use mathlib.Core.List.{List, [], _∷_, _++_}
 use lib.ListN.{length, take, drop}
 use Rattle.rules.specs.Syntax.{Symbol, Literal, Deck, Goal}
 use Rattle.rules.specs.Cells.{writeLiterals}
-use Rattle.rules.specs.Decks.{readAll, readSymbol}
-use Rattle.rules.specs.Goals.{Marked, unmarked, wordsOf, writeGoals}
-use Rattle.rules.specs.WellFormed.{All, WfMarked, WfQuery}
+use Rattle.rules.specs.Refusals.{accepted}
+use Rattle.rules.specs.Decks.{openDeck, readAll, readSymbol}
+use Rattle.rules.specs.Goals.{Marked, unmarked, wordsOf, markedWords, writeGoals}
+use Rattle.rules.specs.WellFormed.{All, WfGoal, WfMarked, WfQuery}
 use Rattle.rules.specs.Evaluation.{Level, Ended, evaluateLevel, zeroth, ended, stopped, withParked}
 use Rattle.report.specs.Reports.{stopOf}
 use Rattle.report.specs.declared.Report.{Report}
@@ -61,20 +62,41 @@ pub record Ordered (l : Level) (store : List ℕ) (c : Counts) : Type 0 where
   pub pending : c .pending ≡ length (l .pending)
   pub parked : c .parked ≡ length (l .parked)
 
+-- The store begins with goals in order, as a run leaves them: the pending ones up to `held`, the parked ones up to `end`.
+pub record InOrder (S : List Symbol) (store : List ℕ) (held end : ℕ) (gs : List Goal) (ms : List Marked) : Type 0 where
+  pub pendingFormed : All (WfGoal S) gs
+  pub parkedFormed : All (WfMarked S) ms
+  pub pendingWords : held ≡ wordsOf gs
+  pub parkedWords : end ≡ held + markedWords ms
+  pub inside : end ≤ length store
+  pub begins : take end store ≡ writeGoals (unmarked gs ++ ms)
+
 -- What level 0's run was started on.
 pub record Started : Type 0 where
   pub deck : Deck
   pub answers : List ℕ
   pub store : List ℕ
   pub goals : List Goal
+  pub parked : List Marked
   pub budget : ℕ
 
-abbrev pub started : Deck → List ℕ → List ℕ → List Goal → ℕ → Started
-started d answers store gs budget = record { deck = d; answers = answers; store = store; goals = gs; budget = budget }
+abbrev pub started : Deck → List ℕ → List ℕ → List Goal → List Marked → ℕ → Started
+started d answers store gs ms budget = record { deck = d; answers = answers; store = store; goals = gs; parked = ms; budget = budget }
 
--- The level at its start, and the evaluation from a level.
+-- The level at its start, with the goals gs pending and ms parked, and the evaluation from a level.
+abbrev pub opening : List Goal → List Marked → Level
+opening gs ms = record { pending = gs; parked = ms; answers = [] }
+
 abbrev pub begun : Started → Level
-begun s = record { pending = s .goals; parked = []; answers = [] }
+begun s = opening (s .goals) (s .parked)
+
+-- An opened deck, and goals stored over its symbols, whatever they are.
+pub record SomeOpening (deckWords store : List ℕ) (parked held : ℕ) : Type 0 where
+  pub deck : Deck
+  pub goals : List Goal
+  pub parkedGoals : List Marked
+  pub opens : openDeck deckWords ≡ accepted deck
+  pub stored : Stored (deck .symbols) store parked held (opening goals parkedGoals)
 
 abbrev pub evaluates : Started → Level → ℕ → Ended
 evaluates s l left = evaluateLevel (s .deck .clauses) (length (s .answers)) (length (s .store)) 32 zeroth l left
@@ -159,11 +181,11 @@ abbrev pub Due : Started → ℕ → List ℕ → List ℕ → Next → Type 0
 Due s k answers store (On p) = (k ≤ p .used) × (0 < p .held) × (p .used < s .budget) × Goes s answers store p
 Due s k answers store (Ends e) = Stops s answers store e
 
--- What level 0's run leaves and reports, started on the goals gs.
-pub record Topped (d : Deck) (answers store : List ℕ) (gs : List Goal) (budget : ℕ) (answers′ store′ : List ℕ) (r : Report) : Type 0 where
+-- What level 0's run leaves and reports, started with the goals gs pending and ms parked.
+pub record Topped (d : Deck) (answers store : List ℕ) (gs : List Goal) (ms : List Marked) (budget : ℕ) (answers′ store′ : List ℕ) (r : Report) : Type 0 where
   pub level : Level
   pub ends :
-      evaluateLevel (d .clauses) (length answers) (length store) 32 zeroth (record { pending = gs; parked = []; answers = [] }) budget
+      evaluateLevel (d .clauses) (length answers) (length store) 32 zeroth (opening gs ms) budget
       ≡ ended (stopped (stopOf (r .stop))) level (budget - r .steps)
   pub within : r .steps ≤ budget
   pub listed : answers′ ≡ writeGoals (unmarked (level .answers)) ++ drop (wordsOf (level .answers)) answers

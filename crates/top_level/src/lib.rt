@@ -10,8 +10,8 @@ ghost use Rattle.rules.specs.Goals.{Marked, goalWords, firstGoal, markNumber};
 ghost use Rattle.rules.specs.Evaluation.{Level, withParked};
 ghost use Rattle.resolvents.specs.Deriving.{Rows};
 ghost use Rattle.clauses.specs.Clauses.{Indexed};
-ghost use Rattle.goals.specs.Store.{Holding, SomeHolding, markOf};
-ghost use Rattle.top_level.specs.Top.{Stored, SomeStored, Written, SomeWritten, Queries, SomeQuery, Ordered, Topped, Started, Bare, SomeBare, Stepped, SomeStepped, Follows, Due, Stops, SomeStops};
+ghost use Rattle.goals.specs.Store.{Holding, markOf};
+ghost use Rattle.top_level.specs.Top.{Stored, SomeStored, Written, SomeWritten, Queries, SomeQuery, Ordered, Topped, Started, Bare, SomeBare, Stepped, SomeStepped, Follows, Due, Stops, SomeStops, opening, SomeOpening, InOrder};
 use goals::Mark;
 use levels::Steps;
 use levels::Turn;
@@ -161,7 +161,7 @@ fn due(next: Next, budget: u32) -> Next
 fn report(end: End, store: &mut [u16]) -> Report
     requires { ⌜ SomeStops (now store) end ⌝ }
     requires { ⌜ length (now store) ≤ 65535 ⌝ }
-    ensures { λ r. ⌜ ((s : Started) (answers : List ℕ) → Stops s answers (now (store .entry)) end → Topped (s .deck) (s .answers) (s .store) (s .goals) (s .budget) answers (now (store .exit)) r) ⌝ }
+    ensures { λ r. ⌜ ((s : Started) (answers : List ℕ) → Stops s answers (now (store .entry)) end → Topped (s .deck) (s .answers) (s .store) (s .goals) (s .parked) (s .budget) answers (now (store .exit)) r) ⌝ }
 {
     let stop = end.stop;
     let at = end.at;
@@ -175,10 +175,11 @@ fn report(end: End, store: &mut [u16]) -> Report
     }
 }
 
-// Runs level 0 from the goals held until it stops, and puts the goals that are left in order.
+// Runs level 0 from the goals stored until it stops, and puts the goals that are left in order.
 pub fn top(
     deck: &[u16],
-    start: usize,
+    parked: usize,
+    held: usize,
     budget: u32,
     answers: &mut [u16],
     store: &mut [u16],
@@ -187,14 +188,14 @@ pub fn top(
     draft: &mut [u16],
     index: &[u16],
 ) -> Report
-    requires { ⌜ SomeHolding (now deck) (now store) start ⌝ }
+    requires { ⌜ SomeOpening (now deck) (now store) parked held ⌝ }
     requires { ⌜ Rows (now table) (now draft) ⌝ }
     requires { ⌜ (8192 ≤ length (now cells)) × (length (now store) ≤ 65535) × Indexed (now deck) (now index) ⌝ }
-    ensures { λ r. ⌜ ((d : Deck) (gs : List Goal) → openDeck (now (deck .entry)) ≡ accepted d → Holding (d .symbols) (now (store .entry)) start gs → Topped d (now (answers .entry)) (now (store .entry)) gs budget (now (answers .exit)) (now (store .exit)) r) ⌝ }
+    ensures { λ r. ⌜ ((d : Deck) (gs : List Goal) (ms : List Marked) → openDeck (now (deck .entry)) ≡ accepted d → Stored (d .symbols) (now (store .entry)) parked held (opening gs ms) → Topped d (now (answers .entry)) (now (store .entry)) gs ms budget (now (answers .exit)) (now (store .exit)) r) ⌝ }
 {
     let begin = Progress {
-        parked: 0,
-        held: start,
+        parked,
+        held,
         used: 0,
         filled: 0,
         listed: 0,
@@ -203,12 +204,12 @@ pub fn top(
     loop {
         match next {
             Next::On(at) => {
-                let parked = at.parked;
-                let held = at.held;
+                let from = at.parked;
+                let h = at.held;
                 let used = at.used;
                 let steps = Steps { budget, used };
-                let part = &mut store[parked..];
-                let taken = take_step(deck, 32, part, held, steps, cells, table, draft, index);
+                let part = &mut store[from..];
+                let taken = take_step(deck, 32, part, h, steps, cells, table, draft, index);
                 next = due(follow(taken, at, answers, store), budget);
             }
             Next::Ends(end) => {
@@ -249,6 +250,15 @@ fn count_goals(words: &[u16]) -> u32
         n += 1;
     }
     n
+}
+
+// Goals in order, the pending ones up to `held` and the parked ones up to `until`, as a run holds them.
+pub fn resume(store: &mut [u16], held: usize, until: usize)
+    requires { ⌜ (held ≤ until) × (until ≤ length (now store)) ⌝ }
+    ensures { λ _. ⌜ ((S : List Symbol) (gs : List Goal) (ms : List Marked) → InOrder S (now (store .entry)) held until gs ms → Stored S (now (store .exit)) (until - held) held (opening gs ms)) ⌝ }
+{
+    words::reverse_range(store, held, until);
+    words::reverse_range(store, 0, until);
 }
 
 // Writes the first goal of a query, mirrored, at the start of the store. The result is its number of words.

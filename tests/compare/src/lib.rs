@@ -1,5 +1,6 @@
 //! A safe wrapper of the engine's C calls (`include/leads.h`).
 
+use second::carry::Given;
 use second::judge::{Engine, Lent, Report};
 
 #[cfg(feature = "stand-in")]
@@ -32,6 +33,26 @@ mod c {
             answer_count: *mut u64,
             pending: *mut u32,
             parked: *mut u32,
+        ) -> u32;
+        #[allow(clippy::too_many_arguments)]
+        pub fn leads_continue(
+            deck: *const u16,
+            deck_words: usize,
+            pending: u64,
+            parked: u64,
+            terms: u64,
+            budget: u32,
+            answers: *mut u16,
+            answer_words: usize,
+            store: *mut u16,
+            store_words: usize,
+            scratch: *mut u16,
+            scratch_words: usize,
+            stop: *mut u32,
+            steps: *mut u32,
+            answer_count: *mut u64,
+            pending_after: *mut u32,
+            parked_after: *mut u32,
         ) -> u32;
         pub fn leads_read_text(
             text: *const u8,
@@ -85,6 +106,31 @@ pub fn run(deck: &[u16], query: &[u16], budget: u32, lent: Lent<'_>, report: &mu
     }
 }
 
+/// Carries on from the goals at the start of the store: 0 and the report filled in, or the refusal's number, 1 to 5, 8, 9 or 12, with nothing touched.
+pub fn carry_on(deck: &[u16], given: Given, budget: u32, lent: Lent<'_>, report: &mut Report) -> u32 {
+    unsafe {
+        c::leads_continue(
+            deck.as_ptr(),
+            deck.len(),
+            given.pending,
+            given.parked,
+            given.terms,
+            budget,
+            lent.answers.as_mut_ptr(),
+            lent.answers.len(),
+            lent.store.as_mut_ptr(),
+            lent.store.len(),
+            lent.scratch.as_mut_ptr(),
+            lent.scratch.len(),
+            &mut report.stop,
+            &mut report.steps,
+            &mut report.answers,
+            &mut report.pending,
+            &mut report.parked,
+        )
+    }
+}
+
 /// 0 and the number of words written, or the refusal's number, 10, 11 or 1 to 5; with 10 the place.
 pub fn read_text(text: &[u8], deck: &mut [u16], words: &mut usize, place: &mut usize) -> u32 {
     unsafe { c::leads_read_text(text.as_ptr(), text.len(), deck.as_mut_ptr(), deck.len(), words, place) }
@@ -116,6 +162,12 @@ impl Engine for Leads {
         report: &mut Report,
     ) -> u32 {
         run(deck, query, budget, lent, report)
+    }
+}
+
+impl second::carry::judge::Engine for Leads {
+    fn carry_on(&self, deck: &[u16], given: Given, budget: u32, lent: Lent<'_>, report: &mut Report) -> u32 {
+        carry_on(deck, given, budget, lent, report)
     }
 }
 

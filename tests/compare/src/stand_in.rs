@@ -1,17 +1,32 @@
 //! The second evaluator under the names of the engine's calls, right or with the slip that `SLIP` names.
 
+use second::carry::judge::Engine as Continues;
+use second::carry::{slips, Given};
 use second::judge::{Engine as _, Lent, Report};
 use second::text::judge::{Engine, Second};
 use second::text::slips::SLIPS;
 use std::slice::{from_raw_parts, from_raw_parts_mut};
 use std::sync::LazyLock;
 
-static ENGINE: LazyLock<&dyn Engine> = LazyLock::new(|| {
-    let Ok(name) = std::env::var("SLIP") else {
-        return &Second;
-    };
-    SLIPS.iter().find(|slip| slip.name == name).expect("a slip of this name")
+static ENGINE: LazyLock<&dyn Engine> = LazyLock::new(|| match SLIPS.iter().find(|slip| named(slip.name)) {
+    Some(slip) => slip,
+    None => &Second,
 });
+
+static CONTINUES: LazyLock<&dyn Continues> = LazyLock::new(|| match slips::SLIPS.iter().find(|slip| named(slip.name)) {
+    Some(slip) => slip,
+    None => &second::judge::Second,
+});
+
+/// The slip of this name is asked for. A name that no slip has is an error.
+fn named(name: &str) -> bool {
+    std::env::var("SLIP").is_ok_and(|wanted| {
+        let texts = SLIPS.iter().map(|slip| slip.name);
+        let mut all = texts.chain(slips::SLIPS.iter().map(|slip| slip.name));
+        assert!(all.any(|one| one == wanted), "no slip of this name");
+        wanted == name
+    })
+}
 
 /// # Safety
 /// As in `include/leads.h`.
@@ -67,6 +82,49 @@ pub unsafe extern "C" fn leads_run(
         (*stop, *steps, *answer_count) = (report.stop, report.steps, report.answers);
         (*pending, *parked) = (report.pending, report.parked);
     }
+    number
+}
+
+/// # Safety
+/// As in `include/leads.h`.
+#[no_mangle]
+#[allow(clippy::too_many_arguments)]
+pub unsafe extern "C" fn leads_continue(
+    deck: *const u16,
+    deck_words: usize,
+    pending: u64,
+    parked: u64,
+    terms: u64,
+    budget: u32,
+    answers: *mut u16,
+    answer_words: usize,
+    store: *mut u16,
+    store_words: usize,
+    scratch: *mut u16,
+    scratch_words: usize,
+    stop: *mut u32,
+    steps: *mut u32,
+    answer_count: *mut u64,
+    pending_after: *mut u32,
+    parked_after: *mut u32,
+) -> u32 {
+    let deck = from_raw_parts(deck, deck_words);
+    let given = Given { pending, parked, terms };
+    let lent = Lent {
+        answers: from_raw_parts_mut(answers, answer_words),
+        store: from_raw_parts_mut(store, store_words),
+        scratch: from_raw_parts_mut(scratch, scratch_words),
+    };
+    let mut report = Report {
+        stop: *stop,
+        steps: *steps,
+        answers: *answer_count,
+        pending: *pending_after,
+        parked: *parked_after,
+    };
+    let number = CONTINUES.carry_on(deck, given, budget, lent, &mut report);
+    (*stop, *steps, *answer_count) = (report.stop, report.steps, report.answers);
+    (*pending_after, *parked_after) = (report.pending, report.parked);
     number
 }
 

@@ -67,6 +67,25 @@ impl Program {
         }
     }
 
+    /// Puts another file beside the deck, which everyone may read, or takes it away; the program may then write there.
+    pub fn beside(&self, name: &str, bytes: Option<&[u8]>) -> io::Result<()> {
+        let (folder, file) = (self.place.join("folder"), self.place.join("folder").join(name));
+        fs::set_permissions(folder, Permissions::from_mode(0o777))?;
+        if fs::exists(&file)? {
+            fs::remove_file(&file)?;
+        }
+        let Some(bytes) = bytes else {
+            return Ok(());
+        };
+        fs::write(&file, bytes)?;
+        fs::set_permissions(&file, Permissions::from_mode(0o644))
+    }
+
+    /// A file beside the deck, if it is there.
+    pub fn found(&self, name: &str) -> Option<Vec<u8>> {
+        fs::read(self.place.join("folder").join(name)).ok()
+    }
+
     pub fn run(&self, input: Input) -> io::Result<Ended> {
         let file = |name: &str| self.place.join(name);
         let mut command = Command::new(file("leads"));

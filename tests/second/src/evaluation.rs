@@ -40,6 +40,8 @@ pub struct Watch {
     /// Words that a step not taken for want of store would have held.
     pub refused_held: usize,
     pub deepest: usize,
+    /// Inner levels under way when the run stopped.
+    pub cut: usize,
     /// Longest goal, in words.
     pub longest: usize,
     /// Goals parked, by mark: at level 0, and deeper.
@@ -90,22 +92,38 @@ struct Evaluation<'a> {
     watch: Watch,
 }
 
+/// The goals that an evaluation starts from.
+#[derive(Default)]
+pub struct Start {
+    pub pending: Vec<Goal>,
+    pub parked: Vec<(Goal, Mark)>,
+}
+
+impl Start {
+    pub fn fresh(query: Query) -> Start {
+        Start {
+            pending: vec![Goal::first(query)],
+            parked: Vec::new(),
+        }
+    }
+}
+
 const DEEPEST: usize = 32;
 
-pub fn evaluate(deck: &Deck, query: Query, limits: Limits) -> Outcome {
-    let first = Goal::first(query);
+pub fn evaluate(deck: &Deck, start: Start, limits: Limits) -> Outcome {
+    let held = start.parked.iter().map(|(goal, _)| goal.words).sum();
     let mut evaluation = Evaluation {
         deck,
         limits,
         levels: Vec::new(),
-        held: 0,
+        held,
         steps: 0,
         answers: Vec::new(),
         answered_words: 0,
-        parked: Vec::new(),
+        parked: start.parked,
         watch: Watch::default(),
     };
-    evaluation.start_level(first);
+    evaluation.start_level(start.pending);
     let stop = evaluation.work();
     evaluation.outcome(stop)
 }
@@ -223,15 +241,17 @@ impl Evaluation<'_> {
             Plan::Succeed => self.close(Closing::Succeeded),
             Plan::Park(mark) => self.park(mark),
             Plan::Replace { derived, .. } => self.replace(derived),
-            Plan::Descend(inner) => self.start_level(inner),
+            Plan::Descend(inner) => self.start_level(vec![inner]),
         }
     }
 
-    fn start_level(&mut self, goal: Goal) {
-        self.held += goal.words;
-        self.watch.longest = self.watch.longest.max(goal.words);
+    fn start_level(&mut self, goals: Vec<Goal>) {
+        for goal in &goals {
+            self.held += goal.words;
+            self.watch.longest = self.watch.longest.max(goal.words);
+        }
         self.levels.push(Level {
-            pending: vec![goal],
+            pending: goals.into_iter().rev().collect(),
             parked: false,
         });
         self.watch.deepest = self.watch.deepest.max(self.depth());
@@ -307,7 +327,8 @@ impl Evaluation<'_> {
         pending.chain(parked).map(|goal| goal.words).sum()
     }
 
-    fn outcome(self, stop: Stop) -> Outcome {
+    fn outcome(mut self, stop: Stop) -> Outcome {
+        self.watch.cut = self.depth();
         let pending = self.levels[0].pending.iter().rev();
         let parked = self.parked.iter();
         Outcome {

@@ -25,11 +25,11 @@ pub struct Goal {
 
 /// A derived goal longer than this parks its parent.
 pub const MOST_GOAL_WORDS: usize = 1_024;
-const GOAL_HEADER: usize = 2;
-const MARK_WEIGHT: u16 = 4_096;
+pub const GOAL_HEADER: usize = 2;
+pub const MARK_WEIGHT: u16 = 4_096;
 
 impl Goal {
-    fn new(answer: Vec<Term>, literals: Vec<Literal>, variables: usize) -> Goal {
+    pub fn new(answer: Vec<Term>, literals: Vec<Literal>, variables: usize) -> Goal {
         let terms = answer.iter().map(Term::words).sum::<usize>();
         let atoms = literals.iter().map(|one| one.atom.words).sum::<usize>();
         Goal {

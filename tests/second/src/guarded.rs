@@ -37,6 +37,13 @@ impl<T: Unit> Guarded<T> {
         }
     }
 
+    /// Holds these in place of the pattern.
+    pub fn with(units: &[T], salt: u16) -> Guarded<T> {
+        let mut guarded = Guarded::new(units.len(), salt);
+        guarded.lent().copy_from_slice(units);
+        guarded
+    }
+
     pub fn lent(&mut self) -> &mut [T] {
         let end = self.units.len() - GUARD;
         &mut self.units[GUARD..end]

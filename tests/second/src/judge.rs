@@ -72,11 +72,11 @@ impl Engine for Second {
     }
 }
 
-fn put(buffer: &mut [u16], words: &[u16]) {
+pub(crate) fn put(buffer: &mut [u16], words: &[u16]) {
     buffer[..words.len()].copy_from_slice(words);
 }
 
-fn report_of(outcome: &Outcome) -> Report {
+pub(crate) fn report_of(outcome: &Outcome) -> Report {
     Report {
         stop: outcome.stop as u32,
         steps: outcome.steps,
@@ -92,10 +92,13 @@ pub fn judge(engine: &dyn Engine, case: &Case) -> Result<(), String> {
     same("open", &opened, &crate::open(&case.deck))?;
     let checked = engine.check(&case.deck, &case.query);
     same("check", &checked, &crate::check(&case.deck, &case.query))?;
-    judge_run(engine, case)
+    judge_run(engine, case).map(|_| ())
 }
 
-fn judge_run(engine: &dyn Engine, case: &Case) -> Result<(), String> {
+/// What a run leaves: its outcome, and the store as the engine left it. Nothing after a refusal.
+pub type Left = Option<(Outcome, Vec<u16>)>;
+
+pub fn judge_run(engine: &dyn Engine, case: &Case) -> Result<Left, String> {
     let mut answers = Guarded::<u16>::new(case.answer_words, 0x5a5a);
     let mut store = Guarded::<u16>::new(case.store_words, 0x3c3c);
     let mut scratch = Guarded::<u16>::new(case.scratch_words, 0x6969);
@@ -111,7 +114,8 @@ fn judge_run(engine: &dyn Engine, case: &Case) -> Result<(), String> {
             same("refusal", &number, &expected)?;
             answers.holds("answers", &[], 0)?;
             store.holds("store", &[], 0)?;
-            scratch.holds("scratch", &[], 0)
+            scratch.holds("scratch", &[], 0)?;
+            Ok(None)
         }
         Ok(outcome) => {
             same("refusal", &number, &0)?;
@@ -119,7 +123,8 @@ fn judge_run(engine: &dyn Engine, case: &Case) -> Result<(), String> {
             let listed = outcome.answer_list();
             answers.holds("answers", &listed, listed.len())?;
             store.holds("store", &outcome.store_start(), case.store_words)?;
-            scratch.holds("scratch", &[], case.scratch_words)
+            scratch.holds("scratch", &[], case.scratch_words)?;
+            Ok(Some((outcome, store.lent().to_vec())))
         }
     }
 }

@@ -1,8 +1,9 @@
-//! A second evaluator of the lead finder, written from document 01 alone.
+//! A second evaluator of the lead finder, written from documents 01 and 02 alone.
 //!
 //! Terms are trees, unification works on classes of equal nodes, and levels
 //! are an explicit stack; so it shares no method with the engine it checks.
 
+pub mod carry;
 pub mod case;
 pub mod deck;
 pub mod evaluation;
@@ -24,7 +25,7 @@ pub use case::Case;
 pub use evaluation::{Outcome, Stop};
 pub use listing::program;
 
-use evaluation::Limits;
+use evaluation::{Limits, Start};
 
 const STORE_WORDS: std::ops::RangeInclusive<usize> = 1_024..=65_535;
 const LEAST_SCRATCH: usize = 8_192;
@@ -53,16 +54,22 @@ pub fn run(
 ) -> Result<Outcome, u32> {
     let deck = deck::open(deck)?;
     let query = query::read(&deck, query)?;
+    lent(store_words, scratch_words)?;
+    let limits = Limits {
+        budget,
+        answer_words,
+        store_words,
+    };
+    Ok(evaluation::evaluate(&deck, Start::fresh(query), limits))
+}
+
+/// Refusals 8 and 9.
+fn lent(store_words: usize, scratch_words: usize) -> Result<(), u32> {
     if !STORE_WORDS.contains(&store_words) {
         return Err(8);
     }
     if scratch_words < LEAST_SCRATCH {
         return Err(9);
     }
-    let limits = Limits {
-        budget,
-        answer_words,
-        store_words,
-    };
-    Ok(evaluation::evaluate(&deck, query, limits))
+    Ok(())
 }

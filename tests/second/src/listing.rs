@@ -3,30 +3,43 @@
 use crate::evaluation::{Outcome, Stop};
 use crate::reader::Symbol;
 use crate::terms::VARIABLE;
-use crate::{deck, run};
+use crate::{deck, query, run};
 
-const BUDGET: u32 = 100_000;
-const STORE: usize = 16_384;
-const SCRATCH: usize = 8_192;
-const ANSWERS: usize = 8_192;
+pub const BUDGET: u32 = 100_000;
+pub const STORE: usize = 16_384;
+pub const SCRATCH: usize = 8_192;
+pub const ANSWERS: usize = 8_192;
 const MOST_DECK_BYTES: usize = 32_768;
 const MOST_QUERY_BYTES: usize = 1_000;
 
 /// What the program prints; no deck stands for a missing file.
 pub fn program(deck_bytes: Option<&[u8]>, query_bytes: &[u8]) -> Vec<u8> {
-    match accepted(deck_bytes, query_bytes) {
-        Ok(text) => text.into_bytes(),
+    match asked(deck_bytes, query_bytes, BUDGET) {
+        Ok(asked) => listing(&asked.symbols, &asked.outcome).into_bytes(),
         Err(number) => format!("refused {number}\n").into_bytes(),
     }
 }
 
-fn accepted(deck_bytes: Option<&[u8]>, query_bytes: &[u8]) -> Result<String, u32> {
-    let bytes = deck_bytes.ok_or(1u32)?;
+/// A query over a deck's file.
+pub struct Asked {
+    pub symbols: Vec<Symbol>,
+    pub outcome: Outcome,
+    /// Number of answer terms.
+    pub terms: usize,
+}
+
+/// The words of a deck's file, or 1.
+pub fn deck_words(bytes: Option<&[u8]>) -> Result<Vec<u16>, u32> {
+    let bytes = bytes.ok_or(1u32)?;
     if bytes.len() > MOST_DECK_BYTES || bytes.len() % 2 == 1 {
         return Err(1);
     }
-    let deck_words = words(bytes);
-    let symbols = deck::open(&deck_words)?.symbols;
+    Ok(words(bytes))
+}
+
+pub fn asked(deck_bytes: Option<&[u8]>, query_bytes: &[u8], budget: u32) -> Result<Asked, u32> {
+    let deck_words = deck_words(deck_bytes)?;
+    let deck = deck::open(&deck_words)?;
     if query_bytes.len() > MOST_QUERY_BYTES {
         return Err(6);
     }
@@ -34,11 +47,16 @@ fn accepted(deck_bytes: Option<&[u8]>, query_bytes: &[u8]) -> Result<String, u32
         return Err(7);
     }
     let query_words = words(query_bytes);
-    let outcome = run(&deck_words, &query_words, BUDGET, ANSWERS, STORE, SCRATCH)?;
-    Ok(listing(&symbols, &outcome))
+    let terms = query::read(&deck, &query_words)?.variables;
+    let outcome = run(&deck_words, &query_words, budget, ANSWERS, STORE, SCRATCH)?;
+    Ok(Asked {
+        symbols: deck.symbols,
+        outcome,
+        terms,
+    })
 }
 
-fn words(bytes: &[u8]) -> Vec<u16> {
+pub fn words(bytes: &[u8]) -> Vec<u16> {
     let pairs = bytes.chunks_exact(2);
     pairs
         .map(|pair| u16::from_le_bytes([pair[0], pair[1]]))

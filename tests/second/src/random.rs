@@ -1,5 +1,6 @@
 //! Random cases, fixed by their seeds.
 
+pub mod carries;
 mod damage;
 mod dice;
 mod families;

@@ -42,6 +42,12 @@ impl<'a> Reader<'a> {
         Some(literals)
     }
 
+    /// So many terms, which end at the cell `at`.
+    pub fn terms(&mut self, number: u64, at: usize) -> Option<Vec<Term>> {
+        let terms: Option<Vec<Term>> = (0..number).map(|_| self.term()).collect();
+        terms.filter(|_| self.at == at)
+    }
+
     /// Number of variables seen so far.
     pub fn variables(&self) -> usize {
         self.seen

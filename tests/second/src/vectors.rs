@@ -24,7 +24,11 @@ pub struct Ran {
 
 /// The result of a case by this evaluator.
 pub fn result(case: &Case) -> Expected {
-    match case.run() {
+    expected(case.run())
+}
+
+pub(crate) fn expected(result: Result<Outcome, u32>) -> Expected {
+    match result {
         Err(number) => Expected::Refused(number),
         Ok(outcome) => Expected::Ran(ran(&outcome)),
     }
@@ -81,7 +85,9 @@ fn parse_case<'a>(lines: &mut impl Iterator<Item = &'a str>) -> Result<(Case, Ex
     Ok((case, expected))
 }
 
-fn parse_expected<'a>(lines: &mut impl Iterator<Item = &'a str>) -> Result<Expected, String> {
+pub(crate) fn parse_expected<'a>(
+    lines: &mut impl Iterator<Item = &'a str>,
+) -> Result<Expected, String> {
     let line = lines.next();
     if let Ok(number) = field(line, "refused") {
         let number = number.parse().map_err(|_| format!("refused {number}"))?;
@@ -121,7 +127,11 @@ pub(crate) fn numbers<N: std::str::FromStr>(text: &str) -> Result<Vec<N>, String
 
 /// A case and its result, as in the file of runs.
 pub fn print(case: &Case, expected: &Expected) -> String {
-    let mut text = print_case(case);
+    print_case(case) + &print_expected(expected)
+}
+
+pub(crate) fn print_expected(expected: &Expected) -> String {
+    let mut text = String::new();
     match expected {
         Expected::Refused(number) => writeln!(text, "refused {number}"),
         Expected::Ran(ran) => {
@@ -146,7 +156,7 @@ fn print_case(case: &Case) -> String {
         + &sizes
 }
 
-fn line(key: &str, words: &[u16]) -> String {
+pub(crate) fn line(key: &str, words: &[u16]) -> String {
     let mut text = key.to_string();
     for word in words {
         write!(text, " {word}").expect("text can be written");

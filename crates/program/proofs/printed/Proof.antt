@@ -1,36 +1,42 @@
--- `printed`: the deck file's tests are the rules', and its words are read.
+-- `printed`: the refusals are the rules', and the words of both inputs are read.
 use borrow.Author.Needs.{needs}
-use borrow.Author.Tests.{not-true, not-false}
-use mathlib.Core.Path.{_≡_, refl, ap, sym, _∙_}
-use mathlib.Core.Bool.{true}
+use mathlib.Core.Path.{_≡_, refl, ap₂, sym, _∙_}
+use mathlib.Core.List.{List}
 use native.Mathlib.Omega.{arith}
-use Prim.Native.Nat.{_/_, _≤_}
+use Prim.Native.Nat.{ℕ, _/_, _≤_}
 use lib.ListN.{length, take}
 use lib.Seq.{length-take-le}
-use Rattle.rules.specs.Refusals.{badHeader}
-use Rattle.rules.specs.Program.{wordsFrom, programRun, program}
-use Rattle.listing.specs.Printed.{fileOf, deckFits}
-use Rattle.program.specs.Runs.{openedRun}
-use Rattle.listing.proofs.PrintedLaws.{file-small, words-read}
+use Rattle.rules.specs.Refusals.{accepted}
+use Rattle.rules.specs.Program.{wordsFrom, queryInput, programRun, program}
+use Rattle.rules.specs.CarryProgram.{deckInput}
+use Rattle.listing.specs.Printed.{fileOf}
+use Rattle.program.specs.Runs.{wordsRun}
+use Rattle.listing.proofs.PrintedLaws.{words-read}
 use Rattle.program.proofs.TextLaws.{refusal-printed}
-use Rattle.program.proofs.PartLaws.{file-refused, file-opened}
+use Rattle.program.proofs.InputLaws.{refusal-of, file-taken, query-taken}
+use Rattle.program.proofs.PartLaws.{deck-refused, query-refused, query-asked}
 use Rattle.program.proofs.printed.Statement.{statement}
 use Rattle.program.proofs.printed.Tie as tie
 
-fits : (c : tie.Else1) → let a = c .before .before .before .before .args in deckFits (a .present) (a .deck .now) ≡ true
-fits c = sym (c .before .deck-fits .ensures) ∙ not-false (c .before .deck-fits .result) (c .if1 .left)
+-- The deck file is let through, and then the query.
+file : (c : tie.Else1) → let a = c .before .before .before .before .args in (length (a .deck .now) ≤ 32768) × (deckInput (fileOf (a .present) (a .deck .now)) ≡ accepted (wordsFrom (a .deck .now)))
+file c = let a = c .before .before .before .before .args in file-taken (a .present) (a .deck .now) (sym (c .before .deck-refusal .ensures) ∙ c .if1 .left)
 
-small : (c : tie.Else1) → length (c .before .before .before .before .args .deck .now) ≤ 32768
-small c = let a = c .before .before .before .before .args in file-small (a .present) (a .deck .now) (fits c)
+input : (c : tie.Else2) → let a = c .before .before .before .before .before .before .args in (length (a .query .now) ≤ 1000) × (queryInput (a .query .now) ≡ accepted (wordsFrom (a .query .now)))
+input c = query-taken (c .before .before .before .before .before .before .args .query .now) (sym (c .before .query-refusal .ensures) ∙ c .if2 .left)
 
-read :
+deck-read :
     (c : tie.After-read-words)
-    → (c .read-words .result ≤ length (c .read-words .last .1 .0))
-    × (take (c .read-words .result) (c .read-words .last .1 .0) ≡ wordsFrom (c .before .before .before .before .before .before .args .deck .now))
-read c = words-read (c .before .before .before .before .before .before .args .deck .now) (c .read-words .ensures) (omega (arith, small (c .before .before)))
+    → (c .read-words .result ≤ length (c .read-words .last .1 .0)) × (take (c .read-words .result) (c .read-words .last .1 .0) ≡ wordsFrom (c .before .before .before .before .before .before .before .before .args .deck .now))
+deck-read c = words-read (c .before .before .before .before .before .before .before .before .args .deck .now) (c .read-words .ensures) (omega (arith, file (c .before .before .before .before) .0))
 
-deck-fits-requires : tie.Need-deck-fits-requires
-deck-fits-requires c κs = search needs
+query-read :
+    (c : tie.After-read-words2)
+    → (c .read-words2 .result ≤ length (c .read-words2 .last .1 .0)) × (take (c .read-words2 .result) (c .read-words2 .last .1 .0) ≡ wordsFrom (c .before .before .before .before .before .before .before .before .before .before .before .args .query .now))
+query-read c = words-read (c .before .before .before .before .before .before .before .before .before .before .before .args .query .now) (c .read-words2 .ensures) (omega (arith, input (c .before .before .before .before .before) .0))
+
+deck-refusal-requires : tie.Need-deck-refusal-requires
+deck-refusal-requires c κs = search needs
 
 put-refusal-requires : tie.Need-put-refusal-requires
 put-refusal-requires c κs = search needs
@@ -39,46 +45,80 @@ returns : tie.Need-returns
 unfolding program
 returns c =
     let a = c .before .before .before .before .before .before .args in
-    let f = c .before .before .before .deck-fits in
-    refusal-printed (programRun (fileOf (a .present) (a .deck .now)) (a .query .now)) badHeader
-    (file-refused (a .present) (a .deck .now) (a .query .now) (sym (f .ensures) ∙ not-true (f .result) (c .before .before .if1 .taken)))
-    (c .put-refusal .ensures badHeader refl) (search needs)
+    let r = refusal-of (deckInput (fileOf (a .present) (a .deck .now))) _ (c .before .before .before .deck-refusal .ensures) (c .before .before .if1 .taken) in
+    refusal-printed (programRun (fileOf (a .present) (a .deck .now)) (a .query .now)) (r .0) (deck-refused (fileOf (a .present) (a .deck .now)) (a .query .now) (r .0) (r .1))
+    (c .put-refusal .ensures (r .0) (r .2)) (search needs)
+
+query-refusal-requires : tie.Need-query-refusal-requires
+query-refusal-requires c κs = search needs
+
+put-refusal-requires-2 : tie.Need-put-refusal-requires-2
+put-refusal-requires-2 c κs = search needs
+
+returns-2 : tie.Need-returns-2
+unfolding program
+returns-2 c =
+    let a = c .before .before .before .before .before .before .before .before .args in
+    let r = refusal-of (queryInput (a .query .now)) _ (c .before .before .before .query-refusal .ensures) (c .before .before .if2 .taken) in
+    refusal-printed (programRun (fileOf (a .present) (a .deck .now)) (a .query .now)) (r .0)
+    (query-refused (fileOf (a .present) (a .deck .now)) (a .query .now) _ (file (c .before .before .before .before) .1) (r .0) (r .1))
+    (c .put-refusal2 .ensures (r .0) (r .2)) (search needs)
 
 slice-aggregate-read-words : tie.Need-slice-aggregate-read-words
 slice-aggregate-read-words c = search needs
 
 read-words-requires : tie.Need-read-words-requires
-read-words-requires c κs =
-    let h : length (c .before .before .before .before .before .args .deck .now) / 2 ≤ 16384 = omega (arith, small (c .before)) in h
+read-words-requires c κs = let h : length (c .before .before .before .before .before .before .before .args .deck .now) / 2 ≤ 16384 = omega (arith, file (c .before .before .before) .0) in h
 
-array-share-prefix-words : tie.Need-array-share-prefix-words
-array-share-prefix-words c = read (c .before) .0
+slice-aggregate-read-words-2 : tie.Need-slice-aggregate-read-words-2
+slice-aggregate-read-words-2 c = search needs
 
-slice-aggregate-opened : tie.Need-slice-aggregate-opened
-slice-aggregate-opened c = sym (length-take-le _ _ (read (c .before .before) .0))
+read-words-requires-2 : tie.Need-read-words-requires-2
+read-words-requires-2 c κs = let h : length (c .before .before .before .before .before .before .before .before .before .before .args .query .now) / 2 ≤ 500 = omega (arith, input (c .before .before .before .before) .0) in h
 
-opened-requires : tie.Need-opened-requires
-opened-requires c κs = search needs
+array-share-prefix-deck-words : tie.Need-array-share-prefix-deck-words
+array-share-prefix-deck-words c = deck-read (c .before .before .before .before) .0
 
-returns-2 : tie.Need-returns-2
+slice-aggregate-listed : tie.Need-slice-aggregate-listed
+slice-aggregate-listed c = sym (length-take-le _ _ (deck-read (c .before .before .before .before .before) .0))
+
+array-share-prefix-query-words : tie.Need-array-share-prefix-query-words
+array-share-prefix-query-words c = query-read (c .before .before) .0
+
+slice-aggregate-listed-2 : tie.Need-slice-aggregate-listed-2
+slice-aggregate-listed-2 c = sym (length-take-le _ _ (query-read (c .before .before .before) .0))
+
+listed-requires : tie.Need-listed-requires
+listed-requires c κs = search needs
+
+returns-3 : tie.Need-returns-3
 unfolding program
-returns-2 c =
-    let a = c .before .before .before .before .before .before .before .before .before .before .args in
-    let r = c .before .before .before .before .read-words in
-    let e : programRun (fileOf (a .present) (a .deck .now)) (a .query .now) ≡ openedRun (take (r .result) (r .last .1 .0)) (a .query .now) =
-    file-opened (a .present) (a .deck .now) (a .query .now) (fits (c .before .before .before .before .before .before)) ∙ ap (λ ws. openedRun ws (a .query .now)) (sym (read (c .before .before .before .before) .1)) in
-    rw e (c .opened .ensures)
+returns-3 c =
+    let a = c .before .before .before .before .before .before .before .before .before .before .before .before .before .before .before .before .args in
+    let d = c .before .before .before .before .before .before .before .before .read-words in
+    let q = c .before .before .before .before .before .read-words2 in
+    let e : programRun (fileOf (a .present) (a .deck .now)) (a .query .now) ≡ wordsRun (take (d .result) (d .last .1 .0)) (take (q .result) (q .last .1 .0)) =
+    query-asked (fileOf (a .present) (a .deck .now)) (a .query .now) _ (file (c .before .before .before .before .before .before .before .before .before .before .before .before) .1) _ (input (c .before .before .before .before .before .before .before .before .before .before) .1)
+    ∙ ap₂ (λ (ds qs : List ℕ). wordsRun ds qs) (sym (deck-read (c .before .before .before .before .before .before .before .before) .1)) (sym (query-read (c .before .before .before .before .before) .1)) in
+    rw e (c .listed .ensures)
 
 pub printed-spec : {M : Type 1} → statement M
 printed-spec =
     tie.close
     (tie.spec
-    deck-fits-requires
+    deck-refusal-requires
     put-refusal-requires
     returns
+    query-refusal-requires
+    put-refusal-requires-2
+    returns-2
     slice-aggregate-read-words
     read-words-requires
-    array-share-prefix-words
-    slice-aggregate-opened
-    opened-requires
-    returns-2)
+    slice-aggregate-read-words-2
+    read-words-requires-2
+    array-share-prefix-deck-words
+    slice-aggregate-listed
+    array-share-prefix-query-words
+    slice-aggregate-listed-2
+    listed-requires
+    returns-3)

@@ -7,11 +7,13 @@ use lib.ListN.{length, take}
 use lib.Seq.{length-take-le}
 use Rattle.rules.specs.Refusals.{noRoom, refused}
 use Rattle.rules.specs.Listing.{listing}
-use Rattle.text_rules.specs.TextProgram.{bytesFrom, placeLine, readProgram}
+use Rattle.rules.specs.Program.{bytesFrom}
+use Rattle.text_rules.specs.TextProgram.{placeLine, readProgram}
 use Rattle.deck.specs.Answers.{refusalFor}
 use Rattle.deck.proofs.RefusalLaws.{number-small}
 use Rattle.listing.proofs.PrintedLaws.{put-printed, line-printed}
-use Rattle.text_program.proofs.OutputLaws.{bytes-length, line-length}
+use Rattle.listing.proofs.ByteLaws.{bytes-length}
+use Rattle.text_program.proofs.OutputLaws.{line-length}
 use Rattle.text_program.proofs.ReadLaws.{long-text, prints-place, place-small, prints-refusal, words-stand}
 use Rattle.text_program.proofs.read_printed.Statement.{statement}
 use Rattle.text_program.proofs.read_printed.Tie as tie

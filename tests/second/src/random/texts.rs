@@ -39,7 +39,7 @@ fn drafted(dice: &mut Dice, times: usize) -> Vec<u8> {
 }
 
 /// A world of few words, most of the time.
-fn small_world(dice: &mut Dice) -> World {
+pub(super) fn small_world(dice: &mut Dice) -> World {
     let mut world = any_world(dice);
     if !dice.chance(1, 50) {
         let most = dice.range(1, 8);

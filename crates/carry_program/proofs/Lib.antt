@@ -1,0 +1,4 @@
+pub mod InputLaws
+pub mod OutputLaws
+pub mod EndLaws
+pub mod RunLaws
