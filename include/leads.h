@@ -46,7 +46,7 @@ uint32_t leads_run(const uint16_t *deck, size_t deck_words, const uint16_t *quer
 /* Reads a text as a deck: refusal 10 of the text, then 11 where the words do not fit in the list or are over 16,384, then 1 to 5 of the
  * deck. Where it returns 0, the list begins with the deck, of deck_words words; the words after it are untouched. place is
  * written on 10 only: the first byte of the token or name at fault, counted from 0, or text_bytes where the text ends too early. After
- * 1 to 5 the list is free. A text with over 4,096 declarations, which is never a deck, takes longer than others. */
+ * 1 to 5 the list is free. */
 uint32_t leads_read_text(const uint8_t *text, size_t text_bytes, uint16_t *deck, size_t deck_room, size_t *deck_words,
                          size_t *place);
 

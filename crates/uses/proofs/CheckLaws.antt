@@ -16,7 +16,6 @@ use Rattle.text_rules.specs.Text.{placeOf, textDeclarations, textEntries}
 use Rattle.text.specs.declared.tokens.Token.{Token as Scanned}
 use Rattle.text.specs.Scan.{Next}
 use Rattle.text.proofs.ReadLaws.{tokenOf}
-use Rattle.text.proofs.CountLaws.{no-arguments}
 use Rattle.uses.specs.Brackets.{inBrackets, Given}
 use Rattle.uses.specs.Uses.{takes, fits, firstMisuse, misuseFrom, GivenAt}
 use Rattle.uses.proofs.BracketLaws.{true-false, brackets-opening, brackets-other, drop-front}
@@ -76,122 +75,107 @@ slice-part (suc from) (suc to) [] = let z : suc to - suc from ≡ to - from = om
 slice-part (suc from) (suc to) (b ∷ text) = let z : suc to - suc from ≡ to - from = omega arith in rw z (slice-part from to text)
 
 -- The arguments of a name, by the token after it.
-pub arguments-given :
-    (text : List ℕ) (at : ℕ) (r : Scanned) (n : Next text at r) (given : List ℕ) (i k : ℕ) → GivenAt given i (tokens 0 (drop at text))
-    → (r .kind ≡ 8 → k ≡ getD given i 0) × ((r .kind ≡ 8 → ⊥) → k ≡ 0) → k ≡ givenArguments (tokens 0 (drop at text))
-unfolding givenArguments
-arguments-given text at r n given i k g h = go (ℕ-discrete (r .kind) 8)
-  where
-    go : Dec (r .kind ≡ 8) → k ≡ givenArguments (tokens 0 (drop at text))
-    go (yes e) =
-        let this = tokenOf text r (n .sort) in
-        let ts : List Token = tokens 0 (drop (r .to) text) in
-        let all = token-more text at r n (λ q. omega arith) in
-        let same : givenArguments (this ∷ ts) ≡ suc (commas 0 ts) = rw (eq-eqb 8 (kindNumber (n .sort)) (sym e ∙ sym (n .kind)), givenArguments) refl in
-        h .0 e ∙ g (suc (commas 0 ts)) (inBrackets ts) (ap inBrackets all ∙ brackets-opening this ts (n .kind ∙ e)) ∙ sym (ap givenArguments all ∙ same)
-    go (no f) = h .1 f ∙ no-arguments text at r n f
+module _ (text : List ℕ) (at : ℕ) (r : Scanned) (n : Next text at r) where
+  pub some-arguments : (given : List ℕ) (i : ℕ) → GivenAt given i (tokens 0 (drop at text)) → r .kind ≡ 8 → getD given i 0 ≡ givenArguments (tokens 0 (drop at text))
+  unfolding givenArguments
+  some-arguments given i g e =
+      let this = tokenOf text r (n .sort) in
+      let ts : List Token = tokens 0 (drop (r .to) text) in
+      let all = token-more text at r n (λ q. omega arith) in
+      let same : givenArguments (this ∷ ts) ≡ suc (commas 0 ts) = rw (eq-eqb 8 (kindNumber (n .sort)) (sym e ∙ sym (n .kind)), givenArguments) refl in
+      g (suc (commas 0 ts)) (inBrackets ts) (ap inBrackets all ∙ brackets-opening this ts (n .kind ∙ e)) ∙ sym (ap givenArguments all ∙ same)
 
--- The names from `start` on are used well as far as `at`, and i pairs of brackets are passed.
-pub record CheckedTo (text : List ℕ) (start at i : ℕ) : Type 0 where
+-- One token, and the first misuse from it on.
+module _ (text : List ℕ) (at : ℕ) (r : Scanned) (n : Next text at r) where
+  abbrev ds : List Declaration
+  ds = textDeclarations text
+
+  abbrev this : Token
+  this = tokenOf text r (n .sort)
+
+  abbrev after : List Token
+  after = tokens 0 (drop (r .to) text)
+
+  abbrev ok : Bool
+  ok = fits ds (r .kind) (slice (r .from) (r .to) text) after
+
+  -- The test of the rules is that of the code.
+  fine-here : (b : Bool) → ok ≡ b → fits ds (kindNumber (n .sort)) (this .bytes) after ≡ b
+  fine-here b e = ap₂ (λ k (bs : List ℕ). fits ds k bs after) (n .kind) (sym (slice-part (r .from) (r .to) text)) ∙ e
+
+  pub token-stops : ok ≡ false → placeOf text (misuseFrom text at) ≡ some (r .from)
+  unfolding placeOf
+  token-stops e = go (ℕ-discrete (r .kind) 1)
+    where
+      back : length text - (length text - r .from) ≡ r .from
+      back = omega (arith, n .forward, n .inside)
+
+      go : Dec (r .kind ≡ 1) → placeOf text (misuseFrom text at) ≡ some (r .from)
+      go (yes q) = absurd (true-false (sym e ∙ fits-other ds (r .kind) (slice (r .from) (r .to) text) after (λ z. omega arith)))
+      go (no q) =
+          ap (placeOf text) (ap (firstMisuse ds) (token-more text at r n q) ∙ misuse-stops ds this after (fine-here false e)) ∙ ap some back
+
+  pub token-done : r .kind ≡ 1 → misuseFrom text at ≡ none
+  unfolding firstMisuse
+  token-done e =
+      ap (firstMisuse ds) (token-last text at r n e)
+      ∙ misuse-goes ds this [] (fits-other ds (kindNumber (n .sort)) (this .bytes) [] (λ q. omega (arith, n .kind)))
+
+  module _ (f : r .kind ≡ 1 → ⊥) where
+    pub token-goes : ok ≡ true → misuseFrom text at ≡ misuseFrom text (r .to)
+    token-goes e = ap (firstMisuse ds) (token-more text at r n f) ∙ misuse-goes ds this after (fine-here true e)
+
+    pub token-forward : length text - r .to < length text - at
+    token-forward = omega (arith, n .later, n .progress f, n .inside)
+
+-- i pairs of brackets are passed from `start` to `at`.
+pub record PairsTo (text : List ℕ) (start at i : ℕ) : Type 0 where
   pub inside : at ≤ length text
   pub later : start + i ≤ at
   pub most : i ≤ 4096
-  pub same : misuseFrom text start ≡ misuseFrom text at
   pub pairs : drop i (inBrackets (tokens 0 (drop start text))) ≡ inBrackets (tokens 0 (drop at text))
 
-pub check-start : (text : List ℕ) (start : ℕ) → start ≤ length text → CheckedTo text start start 0
-check-start text start l = record { inside = l; later = omega arith; most = omega arith; same = refl; pairs = refl }
+pub pairs-start : (text : List ℕ) (start : ℕ) → start ≤ length text → PairsTo text start start 0
+pairs-start text start l = record { inside = l; later = omega arith; most = omega arith; pairs = refl }
 
-module _ (text : List ℕ) (start at i : ℕ) (C : CheckedTo text start at i) where
-  pub check-more : 4096 ≤ i → (start < at) × (at ≤ length text) × (misuseFrom text start ≡ misuseFrom text at)
-  check-more l = (omega (arith, C .later), C .inside, C .same)
+module _ (text : List ℕ) (start at i : ℕ) (C : PairsTo text start at i) (r : Scanned) (n : Next text at r) where
+  pub given-here : i < 4096 → (given : List ℕ) → Given (tokens 0 (drop start text)) given → r .kind ≡ 2 → GivenAt given i (tokens 0 (drop (r .to) text))
+  given-here l given g e k ks q =
+      g i k ks l
+      (C .pairs
+      ∙ ap inBrackets (token-more text at r n (λ z. omega arith))
+      ∙ brackets-other (this text at r n) (tokens 0 (drop (r .to) text)) (λ z. omega (arith, n .kind))
+      ∙ q)
 
-  module _ (r : Scanned) (n : Next text at r) where
-    abbrev ds : List Declaration
-    ds = textDeclarations text
+  pub pairs-on : (r .kind ≡ 1 → ⊥) → i < 4096 → (j : ℕ) → (r .kind ≡ 8 → j ≡ i + 1) × ((r .kind ≡ 8 → ⊥) → j ≡ i) → PairsTo text start (r .to) j
+  pairs-on f l j h = go (ℕ-discrete (r .kind) 8)
+    where
+      all : List ℕ
+      all = inBrackets (tokens 0 (drop start text))
 
-    abbrev this : Token
-    this = tokenOf text r (n .sort)
+      before : drop i all ≡ inBrackets (this text at r n ∷ after text at r n)
+      before = C .pairs ∙ ap inBrackets (token-more text at r n f)
 
-    abbrev ok : Bool
-    ok = fits ds (r .kind) (slice (r .from) (r .to) text) (tokens 0 (drop (r .to) text))
-
-    pub given-here : i < 4096 → (given : List ℕ) → Given (tokens 0 (drop start text)) given → r .kind ≡ 2 → GivenAt given i (tokens 0 (drop (r .to) text))
-    given-here l given g e k ks q =
-        g i k ks l
-        (C .pairs
-        ∙ ap inBrackets (token-more text at r n (λ z. omega arith))
-        ∙ brackets-other this (tokens 0 (drop (r .to) text)) (λ z. omega (arith, n .kind))
-        ∙ q)
-
-    -- The test of the rules is that of the code.
-    fine-last : r .kind ≡ 1 → fits ds (kindNumber (n .sort)) (this .bytes) [] ≡ true
-    fine-last e = fits-other ds (kindNumber (n .sort)) (this .bytes) [] (λ q. omega (arith, n .kind))
-
-    fine-here : (b : Bool) → ok ≡ b → fits ds (kindNumber (n .sort)) (this .bytes) (tokens 0 (drop (r .to) text)) ≡ b
-    fine-here b e =
-        ap₂ (λ k (bs : List ℕ). fits ds k bs (tokens 0 (drop (r .to) text))) (n .kind) (sym (slice-part (r .from) (r .to) text)) ∙ e
-
-    place-back : length text - (length text - r .from) ≡ r .from
-    place-back = omega (arith, n .forward, n .inside)
-
-    pub check-stops : ok ≡ false → placeOf text (misuseFrom text start) ≡ some (r .from)
-    unfolding placeOf
-    check-stops e = go (ℕ-discrete (r .kind) 1)
-      where
-        go : Dec (r .kind ≡ 1) → placeOf text (misuseFrom text start) ≡ some (r .from)
-        go (yes q) =
-            absurd
-            (true-false (sym e ∙ fits-other ds (r .kind) (slice (r .from) (r .to) text) (tokens 0 (drop (r .to) text)) (λ z. omega arith)))
-        go (no q) =
-            ap (placeOf text)
-            (C .same
-            ∙ ap (firstMisuse ds) (token-more text at r n q)
-            ∙ misuse-stops ds this (tokens 0 (drop (r .to) text)) (fine-here false e))
-            ∙ ap some place-back
-
-    pub check-done : r .kind ≡ 1 → placeOf text (misuseFrom text start) ≡ none
-    unfolding placeOf firstMisuse
-    check-done e = ap (placeOf text) (C .same ∙ ap (firstMisuse ds) (token-last text at r n e) ∙ misuse-goes ds this [] (fine-last e))
-
-    module _ (f : r .kind ≡ 1 → ⊥) where
-      pub check-forward : length text - r .to < length text - at
-      check-forward = omega (arith, n .later, n .progress f, n .inside)
-
-      pub check-on : i < 4096 → ok ≡ true → (j : ℕ) → (r .kind ≡ 8 → j ≡ i + 1) × ((r .kind ≡ 8 → ⊥) → j ≡ i) → CheckedTo text start (r .to) j
-      check-on l e j h = go (ℕ-discrete (r .kind) 8)
-        where
-          goes : misuseFrom text start ≡ misuseFrom text (r .to)
-          goes = C .same ∙ ap (firstMisuse ds) (token-more text at r n f) ∙ misuse-goes ds this (tokens 0 (drop (r .to) text)) (fine-here true e)
-
-          before : drop i (inBrackets (tokens 0 (drop start text))) ≡ inBrackets (this ∷ tokens 0 (drop (r .to) text))
-          before = C .pairs ∙ ap inBrackets (token-more text at r n f)
-
-          go : Dec (r .kind ≡ 8) → CheckedTo text start (r .to) j
-          go (yes q) =
-              let one = h .0 q in
-              record {
-                inside = n .inside;
-                later = omega (arith, C .later, n .later, n .progress f);
-                most = omega arith;
-                same = goes;
-                pairs =
-                    ap (λ m. drop m (inBrackets (tokens 0 (drop start text)))) one
-                    ∙ drop-front (inBrackets (tokens 0 (drop start text))) i (suc (commas 0 (tokens 0 (drop (r .to) text)))) (inBrackets (tokens 0 (drop (r .to) text)))
-                    (before ∙ brackets-opening this (tokens 0 (drop (r .to) text)) (n .kind ∙ q)) .1;
-              }
-          go (no q) =
-              let same = h .1 q in
-              record {
-                inside = n .inside;
-                later = omega (arith, C .later, n .later, n .progress f);
-                most = omega arith;
-                same = goes;
-                pairs =
-                    ap (λ m. drop m (inBrackets (tokens 0 (drop start text)))) same
-                    ∙ before
-                    ∙ brackets-other this (tokens 0 (drop (r .to) text)) (λ z. q (sym (n .kind) ∙ z));
-              }
+      go : Dec (r .kind ≡ 8) → PairsTo text start (r .to) j
+      go (yes q) =
+          let one = h .0 q in
+          record {
+            inside = n .inside;
+            later = omega (arith, C .later, n .later, n .progress f);
+            most = omega arith;
+            pairs =
+                ap (λ m. drop m all) one
+                ∙ drop-front all i (suc (commas 0 (after text at r n))) (inBrackets (after text at r n))
+                (before ∙ brackets-opening (this text at r n) (after text at r n) (n .kind ∙ q)) .1;
+          }
+      go (no q) =
+          let same = h .1 q in
+          record {
+            inside = n .inside;
+            later = omega (arith, C .later, n .later, n .progress f);
+            most = omega arith;
+            pairs = ap (λ m. drop m all) same ∙ before ∙ brackets-other (this text at r n) (after text at r n) (λ z. q (sym (n .kind) ∙ z));
+          }
 
 -- The whole.
 pub clauses-misused : (text : List ℕ) (end : ℕ) → clauseTokens 0 (tokens 0 text) ≡ tokens 0 (drop end text) → misused (textDeclarations text) (textEntries text) ≡ misuseFrom text end

@@ -1,3 +1,3 @@
 pub mod Brackets
-pub mod Declarations
 pub mod Uses
+pub mod Batches

@@ -1,4 +1,4 @@
-// Names one after the other, with the numbers of their arguments.
+// Names one after the other, looked up in the table of declarations with the numbers of their arguments.
 ghost use mathlib.Core.Path.{_≡_};
 ghost use mathlib.Core.Option.{none};
 ghost use Prim.Native.Nat.{_+_, _≤_, _<_};
@@ -6,6 +6,7 @@ ghost use lib.ListN.{length, getD, drop};
 ghost use lib.Seq.{slice};
 ghost use Rattle.text_rules.specs.TextTokens.{tokens};
 ghost use Rattle.text_rules.specs.TextGrammar.{item, unread};
+ghost use Rattle.text_rules.specs.TextWords.{givenArguments};
 ghost use Rattle.text_rules.specs.Text.{textDeclarations};
 ghost use Rattle.naming.specs.Table.{Declared};
 ghost use Rattle.uses.specs.Brackets.{Given};
@@ -20,18 +21,22 @@ pub enum Seen {
     Done,
 }
 
-// The arguments of a name, by the kind of the token after it.
-fn arguments(kind: u8, given: &[usize], i: usize) -> usize
-    requires { ⌜ i < length (now given) ⌝ }
-    ensures { λ r. ⌜ (kind ≡ 8 → r ≡ getD (now (given .entry)) i 0) × ((kind ≡ 8 → ⊥) → r ≡ 0) ⌝ }
+// The arguments of a name; pair i of brackets is the next one.
+pub fn arguments(text: &[u8], given: &[usize], i: usize, t: Token) -> usize
+    requires { ⌜ (t .to ≤ length (now text)) × (i < length (now given)) × (t .kind ≡ 2 → GivenAt (now given) i (tokens 0 (drop (t .to) (now text)))) ⌝ }
+    ensures { λ r. ⌜ (t .kind ≡ 2 → r ≡ givenArguments (tokens 0 (drop (t .to) (now (text .entry))))) ⌝ }
 {
-    if kind == 8 {
+    if t.kind != 2 {
+        return 0;
+    }
+    let after = tokens::next_token(text, t.to);
+    if after.kind == 8 {
         return given[i];
     }
     0
 }
 
-// Whether a token is no name, or one that is used well; pair i of brackets is the next one.
+// Whether a token is no name, or one that is used well.
 fn fine(
     text: &[u8],
     froms: &[usize],
@@ -45,22 +50,30 @@ fn fine(
     t: Token,
 ) -> bool
     requires { ⌜ (t .from ≤ t .to) × (t .to ≤ length (now text)) × (unread item (tokens 0 (now text)) ≡ none) ⌝ }
-    requires { ⌜ (n ≤ 4096 → Declared (now text) (now froms) (now tos) (now heads) (now befores) (now symbols) n) ⌝ }
+    requires { ⌜ Declared (now text) (now froms) (now tos) (now heads) (now befores) (now symbols) n ⌝ }
     requires { ⌜ (i < length (now given)) × (t .kind ≡ 2 → GivenAt (now given) i (tokens 0 (drop (t .to) (now text)))) ⌝ }
     ensures { λ r. ⌜ r ≡ fits (textDeclarations (now (text .entry))) (t .kind) (slice (t .from) (t .to) (now (text .entry))) (tokens 0 (drop (t .to) (now (text .entry)))) ⌝ }
 {
     if t.kind != 2 {
         return true;
     }
-    let from = t.from;
-    let to = t.to;
-    let after = tokens::next_token(text, to);
-    let k = arguments(after.kind, given, i);
-    lookup::takes(text, froms, tos, heads, befores, symbols, n, from, to, k)
+    let k = arguments(text, given, i, t);
+    lookup::takes(
+        text,
+        froms,
+        tos,
+        heads,
+        befores,
+        symbols,
+        n,
+        t.from,
+        t.to,
+        k,
+    )
 }
 
 // One pair more, after an opening bracket.
-fn pairs(kind: u8, i: usize) -> usize
+pub fn pairs(kind: u8, i: usize) -> usize
     requires { ⌜ i < 4096 ⌝ }
     ensures { λ r. ⌜ (kind ≡ 8 → r ≡ i + 1) × ((kind ≡ 8 → ⊥) → r ≡ i) ⌝ }
 {
@@ -71,7 +84,7 @@ fn pairs(kind: u8, i: usize) -> usize
 }
 
 // The names from `start` on, as far as their arguments are given.
-pub fn check(
+pub fn in_table(
     text: &[u8],
     froms: &[usize],
     tos: &[usize],
@@ -83,7 +96,7 @@ pub fn check(
     given: &[usize],
 ) -> Seen
     requires { ⌜ (start ≤ length (now text)) × (unread item (tokens 0 (now text)) ≡ none) ⌝ }
-    requires { ⌜ (n ≤ 4096 → Declared (now text) (now froms) (now tos) (now heads) (now befores) (now symbols) n) ⌝ }
+    requires { ⌜ Declared (now text) (now froms) (now tos) (now heads) (now befores) (now symbols) n ⌝ }
     requires { ⌜ (4096 ≤ length (now given)) × Given (tokens 0 (drop start (now text))) (now given) ⌝ }
     ensures { λ r. ⌜ Sees (now (text .entry)) start r ⌝ }
 {

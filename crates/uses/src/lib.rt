@@ -1,8 +1,10 @@
 // Uses of names in the clauses of a text (document 02, U1).
+mod arities;
+mod batch;
 mod brackets;
 mod checking;
+mod gathering;
 mod lookup;
-mod walk;
 
 ghost use mathlib.Core.Path.{_≡_};
 ghost use mathlib.Core.Option.{none};
@@ -14,11 +16,13 @@ ghost use Rattle.text_rules.specs.TextWords.{clauseTokens};
 ghost use Rattle.text_rules.specs.Text.{placeOf, textDeclarations, textEntries};
 ghost use Rattle.text.specs.Steps.{optionOf};
 ghost use Rattle.naming.specs.Table.{Declared};
+ghost use Rattle.uses.specs.Brackets.{Given};
+ghost use Rattle.uses.specs.Uses.{Sees};
 use checking::Seen;
 use text::grammar::Place;
 
 // The first name of the clauses, which begin at `end`, that is undeclared or used with another arity.
-// Where there are more than 4,096 declarations, these are walked over, and the table is not used.
+// Where there are more than 4,096 declarations, the table is not used.
 pub fn misused(
     text: &[u8],
     froms: &[usize],
@@ -37,7 +41,7 @@ pub fn misused(
     let mut at = end;
     loop {
         brackets::count(text, at, &mut given);
-        let seen = checking::check(text, froms, tos, heads, befores, symbols, n, at, &given);
+        let seen = check(text, froms, tos, heads, befores, symbols, n, at, &given);
         match seen {
             Seen::Misused(place) => {
                 return Place::At(place);
@@ -50,4 +54,27 @@ pub fn misused(
             }
         }
     }
+}
+
+// The names from `start` on, as far as their arguments are given.
+fn check(
+    text: &[u8],
+    froms: &[usize],
+    tos: &[usize],
+    heads: &[u16],
+    befores: &[u16],
+    symbols: &[u16],
+    n: usize,
+    start: usize,
+    given: &[usize],
+) -> Seen
+    requires { ⌜ (start ≤ length (now text)) × (unread item (tokens 0 (now text)) ≡ none) ⌝ }
+    requires { ⌜ (n ≤ 4096 → Declared (now text) (now froms) (now tos) (now heads) (now befores) (now symbols) n) ⌝ }
+    requires { ⌜ (4096 ≤ length (now given)) × Given (tokens 0 (drop start (now text))) (now given) ⌝ }
+    ensures { λ r. ⌜ Sees (now (text .entry)) start r ⌝ }
+{
+    if n <= 4096 {
+        return checking::in_table(text, froms, tos, heads, befores, symbols, n, start, given);
+    }
+    batch::in_batch(text, start, given)
 }

@@ -1,4 +1,4 @@
-// The arity of a declared name.
+// Names in the table of declarations.
 ghost use mathlib.Core.Path.{_≡_};
 ghost use mathlib.Core.Option.{none};
 ghost use Prim.Native.Nat.{_≤_, _%_};
@@ -9,7 +9,6 @@ ghost use Rattle.text_rules.specs.TextGrammar.{item, unread};
 ghost use Rattle.text_rules.specs.Text.{textDeclarations};
 ghost use Rattle.naming.specs.Table.{Declared};
 ghost use Rattle.uses.specs.Uses.{takes};
-use crate::walk;
 use text::names;
 
 fn arity(word: u16) -> usize
@@ -18,8 +17,8 @@ fn arity(word: u16) -> usize
     (word % 256) as usize
 }
 
-// Whether the name from `from` up to `to` is in the table with that many arguments.
-fn in_table(
+// Whether the name from `from` up to `to` is declared with that many arguments.
+pub fn takes(
     text: &[u8],
     froms: &[usize],
     tos: &[usize],
@@ -40,38 +39,4 @@ fn in_table(
         return false;
     }
     arity(symbols[j - 1]) == arguments
-}
-
-// The same, by a walk over the declarations where these are more than the table holds.
-pub fn takes(
-    text: &[u8],
-    froms: &[usize],
-    tos: &[usize],
-    heads: &[u16],
-    befores: &[u16],
-    symbols: &[u16],
-    n: usize,
-    from: usize,
-    to: usize,
-    arguments: usize,
-) -> bool
-    requires { ⌜ (from ≤ to) × (to ≤ length (now text)) × (unread item (tokens 0 (now text)) ≡ none) ⌝ }
-    requires { ⌜ (n ≤ 4096 → Declared (now text) (now froms) (now tos) (now heads) (now befores) (now symbols) n) ⌝ }
-    ensures { λ r. ⌜ r ≡ takes (textDeclarations (now (text .entry))) (slice from to (now (text .entry))) arguments ⌝ }
-{
-    if n <= 4096 {
-        return in_table(
-            text,
-            froms,
-            tos,
-            heads,
-            befores,
-            symbols,
-            n,
-            from,
-            to,
-            arguments,
-        );
-    }
-    walk::in_text(text, from, to, arguments)
 }

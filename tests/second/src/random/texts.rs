@@ -9,7 +9,7 @@ use super::{damage as deck_damage, Family, FAMILIES};
 use crate::case::Case;
 use crate::text::{size, write, ReadCase, WriteCase};
 use crate::world::World;
-pub use limits::{alike, declared, nested, sized};
+pub use limits::{alike, declared, nested, sized, used};
 
 /// The text of a seed, and a list to read it into; the same for ever.
 pub fn read_case(seed: u64) -> ReadCase {

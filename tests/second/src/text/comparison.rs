@@ -4,7 +4,7 @@ use super::judge::{judge_read, judge_write, Engine, READS, WRITES};
 use super::shrink::{small_read, small_write};
 use super::vectors::{parse_reads, parse_writes, read_result};
 use super::{size, tokens, write, ReadCase, WriteCase};
-use crate::random::texts::{alike, declared, nested, read_case, sized, write_case};
+use crate::random::texts::{alike, declared, nested, read_case, sized, used, write_case};
 use std::collections::BTreeMap;
 use std::time::{Duration, Instant};
 
@@ -145,8 +145,33 @@ impl<'a> Comparison<'a> {
         for shape in 0..3 {
             self.quick(format!("names alike, {shape}"), alike(shape), ROOMY)?;
         }
+        self.uses()?;
         self.nesting()?;
         self.largest_decks()
+    }
+
+    /// Many declarations, all of them used, with a clause before the uses and one after them.
+    fn uses(&mut self) -> Result<(), String> {
+        for number in [4_097, 8_192, 8_193, 20_000] {
+            for (first, last) in [
+                ("", ""),
+                ("", "a0(_0)."),
+                ("a0(_0).", ""),
+                ("a0.", "b."),
+                ("b.", "a1."),
+                ("a1.", "b."),
+                ("a1(_0).", "a4095(a1(a0))."),
+            ] {
+                let name = format!("{number} used, {first} before and {last} after");
+                self.quick(name, used(number, first, last), ROOMY)?;
+            }
+        }
+        for last in ["", "a0(_0)."] {
+            let (name, text) = ("100,000 used".to_string(), used(100_000, "", last));
+            let room = ROOMY;
+            self.read(&ReadCase { name, text, room })?;
+        }
+        Ok(())
     }
 
     fn nesting(&mut self) -> Result<(), String> {

@@ -35,6 +35,17 @@ pub fn declared(number: usize) -> Vec<u8> {
     (0..number).map(line).collect::<String>().into_bytes()
 }
 
+/// So many declarations; a clause; each name used in a fact, the last one first; and another clause.
+pub fn used(number: usize, first: &str, last: &str) -> Vec<u8> {
+    let fact = |at: usize| match at % 16 {
+        0 => format!("a{at}."),
+        arity => format!("a{at}({}).", vec!["_0"; arity].join(",")),
+    };
+    let facts: String = (0..number).rev().map(fact).collect();
+    let clauses = format!("{first}{facts}{last}");
+    [declared(number), clauses.into_bytes()].concat()
+}
+
 /// `p(f(f(..`, so deep, with so many brackets closed; at the innermost place none, one or two arguments.
 pub fn nested(deep: usize, close: usize, inside: usize) -> Vec<u8> {
     let arguments = ["", "a", "a,a"][inside];
