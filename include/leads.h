@@ -58,7 +58,8 @@ uint32_t leads_write_text(const uint16_t *deck, size_t deck_words, uint8_t *text
 /* Carries on from the goals at the start of the store: refusals 1 to 5, 8, 9 and 12. pending and parked are their numbers, as the run before
  * has returned them, and terms is the number of answer terms of each: for the goals of a query, the number of its variables. To carry on,
  * pass the same deck, the store as it was left (or a store of another length that begins with its goals) and a new budget, and take the
- * answers of all runs together: each lists its own from the start of its list. Any store may be passed that begins with that many goals:
+ * answers of all runs together: each lists its own from the start of its list. Any store may be passed that begins with that many goals
+ * over the deck's symbols and their arities, none at all included (then the run is finished with 0 steps):
  * pending ones marked 0, then parked ones marked 1 to 4, each of that many answer terms and 1,024 words or fewer, its variables numbered by
  * first appearance, answer terms first; else it is refused with 12. Pending goals go on, parked ones stay parked, with new ones behind them.
  * A "not" that was cut short has left its goal first and pending, as it was, and is done again from its start: so the steps of the runs need
