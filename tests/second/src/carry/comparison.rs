@@ -25,7 +25,7 @@ pub struct Comparison<'a> {
 /// A run is continued so often.
 const MOST_CONTINUED: usize = 5;
 /// A call without steps that takes longer moves the goals again and again.
-const MOST_TIME: Duration = Duration::from_millis(100);
+const MOST_TIME: Duration = Duration::from_millis(400);
 
 impl<'a> Comparison<'a> {
     pub fn new(engine: &'a dyn Engine) -> Comparison<'a> {

@@ -462,14 +462,14 @@ pub const SLIPS: [Slip; 42] = [
         }
         call.right()
     }),
-    slip("all goals are moved once for each", |mut call| {
-        let goals = call.case().lengths().len();
-        for _ in 0..2 * goals {
+    slip("all goals are moved for each, again and again", |mut call| {
+        let moves = 32 * call.case().lengths().len();
+        for _ in 0..moves {
             call.lent.store.rotate_left(1);
         }
         call.lent
             .store
-            .rotate_right(2 * goals % call.lent.store.len().max(1));
+            .rotate_right(moves % call.lent.store.len().max(1));
         call.right()
     }),
 ];
