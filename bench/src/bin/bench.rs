@@ -48,16 +48,17 @@ fn chain(stations: u16) -> (Vec<u16>, Vec<u16>) {
     (deck(symbols, &clauses), vec![cut, VARIABLE])
 }
 
-/// p(x1, .., xn, xn) against p(f(y1, y1), .., f(yn, yn), z): the terms double, the derived goal is small.
+/// p(x1, .., xn) against p(f(y1, y1), .., f(yn, yn)) if e(y1), .., e(yn); e(a). Each term has its variable twice.
 fn doubling(n: u16) -> (Vec<u16>, Vec<u16>) {
-    let (f, p) = (0, 1);
-    let mut head = vec![p];
+    let (f, p, e, a) = (0, 1, 2, 3);
+    let mut clause = vec![p];
     let mut query = vec![p];
     for i in 0..n {
         query.push(VARIABLE + i);
-        head.extend([f, VARIABLE + i, VARIABLE + i]);
+        clause.extend([f, VARIABLE + i, VARIABLE + i]);
     }
-    (deck(vec![2, 256 + n], &[head]), query)
+    clause.extend((0..n).flat_map(|i| [e, VARIABLE + i]));
+    (deck(vec![2, 256 + n, 257, 0], &[clause, vec![e, a]]), query)
 }
 
 /// Links between 2,000 stations, what is reached and what is not, in just 16,384 words.

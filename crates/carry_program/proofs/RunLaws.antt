@@ -1,14 +1,16 @@
 -- What the runs of the two programs come to and leave, on their buffers.
 use Prim.Native.Nat.{ℕ, suc, _*_, _≤_}
 use mathlib.Core.Path.{_≡_, refl, ap, sym, _∙_, subst}
+use mathlib.Core.Bool.{true}
 use mathlib.Core.Option.{Option, some}
 use mathlib.Core.List.{List, [], _∷_, _++_}
 use native.Mathlib.Omega.{arith}
 use lib.ListN.{length, drop, replicate, length-replicate, length-drop, take-append-drop}
 use Rattle.rules.specs.Terms.{nil, count}
-use Rattle.rules.specs.Syntax.{Symbol, Deck, Goal, varsLiterals, topGoal}
-use Rattle.rules.specs.Refusals.{Refusal, Checked, refused, accepted}
-use Rattle.rules.specs.Decks.{symbolWords, openDeck, checkQuery}
+use Rattle.rules.specs.Syntax.{Literal, Symbol, Deck, Goal, varsLiterals, topGoal}
+use Rattle.rules.specs.Refusals.{Refusal, Checked, refused, accepted, andThen, require}
+use Rattle.rules.specs.Decks.{symbolWords, openDeck, readQuery, checkQuery}
+use Rattle.rules.specs.Loose.{tightClauses, tightQuery, checkTight, checkTightQuery}
 use Rattle.rules.specs.Goals.{Marked, firstGoal, variables, queryVariables}
 use Rattle.rules.specs.Stored.{readOpen}
 use Rattle.rules.specs.Evaluation.{Outcome, evaluate}
@@ -75,6 +77,12 @@ unfolding variables
 variables-count [] = refl
 variables-count (v ∷ vs) = ap suc (variables-count vs)
 
+query-checked :
+    (deckWords queryWords : List ℕ) (d : Deck) (query : List Literal) → openDeck deckWords ≡ accepted d → readQuery d queryWords ≡ accepted query
+    → tightClauses (d .clauses) ≡ true → tightQuery query ≡ true → checkQuery deckWords queryWords ≡ accepted query
+unfolding checkQuery checkTightQuery checkTight require andThen
+query-checked deckWords queryWords d query o a t u = rw (o, a, t, u) refl
+
 -- FRESH RUNS
 module _ (deckWords queryWords : List ℕ) (budget : ℕ) (entry exit : Slices) (b : Buffers entry) where
   same-run : run deckWords queryWords budget 8192 16384 8192 ≡ runOn deckWords queryWords budget entry
@@ -89,7 +97,7 @@ module _ (deckWords queryWords : List ℕ) (budget : ℕ) (entry exit : Slices) 
       → ((ar : List ℕ) (answers : ℕ) (S : List Symbol) (g : Goal) → GoalCells ar queryWords answers S g → terms ≡ topGoal g)
       → Ran deckWords queryWords budget entry (accepted (reportOf r)) exit
       → Finished (openWords deckWords queryWords budget) deckWords terms (exit .answers) (exit .store) r
-  unfolding openWords checkQuery queryVariables firstGoal Leaves runOn
+  unfolding openWords queryVariables firstGoal Leaves runOn
   open-done r terms many ran =
       let t = returned-accepted _ (reportOf r) (ran .returns) in
       let o = t .0 in
@@ -103,7 +111,7 @@ module _ (deckWords queryWords : List ℕ) (budget : ℕ) (entry exit : Slices) 
         wf = firstGoal-wf (a .deck .symbols) (a .query) (q .1);
         many = variables-count (queryVariables (a .query)) ∙ sym named;
       } in
-      let checks : checkQuery deckWords queryWords ≡ accepted (a .query) = then-next (openDeck deckWords) _ (a .deck) (a .opens) ∙ a .asks in
+      let checks : checkQuery deckWords queryWords ≡ accepted (a .query) = query-checked deckWords queryWords (a .deck) (a .query) (a .opens) (a .asks) (a .tightDeck) (a .tightAsked) in
       let comes : openWords deckWords queryWords budget ≡ accepted (record { outcome = o; terms = terms }) =
       then-next (run deckWords queryWords budget 8192 16384 8192) _ o (same-run ∙ t .1) ∙ then-next (checkQuery deckWords queryWords) _ (a .query) checks
       ∙ ap {B = Checked Kept} (λ (n : ℕ). accepted (record { outcome = o; terms = n })) (sym named) in

@@ -10,9 +10,9 @@ use lib.Dec.{leb}
 use Rattle.rules.specs.Syntax.{Symbol, Deck}
 use Rattle.rules.specs.Cells.{readLiterals}
 use Rattle.rules.specs.Refusals.{Refusal, badHeader, badSymbol, badStarts, longClause, badClause, longQuery, badQuery, refusalNumber, Checked, refused, accepted, andThen, require, obtain, checkedNumber}
-use Rattle.rules.specs.Decks.{headerFits, symbolWords, clauseWords, termCells, readSymbol, readClause, readAll, startsFit, clauseRows, rowsShort, openDeck, readQuery, checkQuery}
+use Rattle.rules.specs.Decks.{headerFits, symbolWords, clauseWords, termCells, readSymbol, readClause, readAll, startsFit, clauseRows, rowsShort, openDeck, readQuery}
 use Rattle.rules.proofs.DeckLaws.{steps-open}
-use Rattle.deck.specs.Answers.{found}
+use Rattle.deck.specs.Answers.{found, checkWords}
 use Rattle.deck.specs.Kinds.{symbolsOf}
 use Rattle.deck.proofs.RefusalLaws.{number-positive}
 use Rattle.deck.proofs.SymbolLaws.{found-symbols}
@@ -96,8 +96,8 @@ read-number ws qs d e =
     ∙ ap (unless (leb (length qs) 500) 6) (rw (← e) (obtained-last badQuery (readLiterals (d .symbols) qs)))
 
 -- A deck that is refused is refused with any query.
-pub refused-query : (ws qs : List ℕ) (n : ℕ) → checkedNumber (openDeck ws) ≡ n → (n ≡ 0 → ⊥) → checkedNumber (checkQuery ws qs) ≡ n
-unfolding checkQuery andThen
+pub refused-query : (ws qs : List ℕ) (n : ℕ) → checkedNumber (openDeck ws) ≡ n → (n ≡ 0 → ⊥) → checkedNumber (checkWords ws qs) ≡ n
+unfolding checkWords andThen
 refused-query ws qs n e h = go (openDeck ws) e
   where
     go : (o : Checked Deck) → checkedNumber o ≡ n → checkedNumber (andThen o (λ d. readQuery d qs)) ≡ n
@@ -122,6 +122,6 @@ pub accepted-starts : (ws : List ℕ) → checkedNumber (openDeck ws) ≡ 0 → 
 accepted-starts ws e = let d = accepted-deck ws e in steps-open ws (d .0) (d .1) .starts
 
 -- On such a deck the query's number is the answer.
-pub accepted-query : (ws qs : List ℕ) → checkedNumber (openDeck ws) ≡ 0 → checkedNumber (checkQuery ws qs) ≡ queryNumber ws qs
-unfolding checkQuery andThen
+pub accepted-query : (ws qs : List ℕ) → checkedNumber (openDeck ws) ≡ 0 → checkedNumber (checkWords ws qs) ≡ queryNumber ws qs
+unfolding checkWords andThen
 accepted-query ws qs e = let d = accepted-deck ws e in rw (d .1) (read-number ws qs (d .0) (accepted-symbols ws (d .0) (d .1)))

@@ -4,13 +4,15 @@ use mathlib.Core.Path.{_≡_, refl, ap, sym, _∙_}
 use mathlib.Core.List.{List, [], _∷_}
 use native.Mathlib.Omega.{arith}
 use lib.ListN.{getD}
-use Rattle.rules.specs.Refusals.{Refusal, badHeader, badSymbol, badStarts, longClause, badClause, longQuery, badQuery, badStore, badScratch, badText, noRoom, badGoals, refusalNumber, Checked, refused, accepted, checkedNumber}
+use Rattle.rules.specs.Refusals.{Refusal, badHeader, badSymbol, badStarts, longClause, badClause, longQuery, badQuery, badStore, badScratch, badText, noRoom, badGoals, looseClause, looseQuery, refusalNumber, Checked, refused, accepted, checkedNumber}
 use Rattle.deck.specs.declared.Refusal.{Refusal as Why}
 use Rattle.deck.specs.declared.Checked.the-variants.{Refused}
 use Rattle.deck.specs.Answers.{numberOf, refusalFor}
 
 abbrev refusals : List Refusal
-refusals = badHeader ∷ badSymbol ∷ badStarts ∷ longClause ∷ badClause ∷ longQuery ∷ badQuery ∷ badStore ∷ badScratch ∷ badText ∷ noRoom ∷ badGoals ∷ []
+refusals =
+    badHeader ∷ badSymbol ∷ badStarts ∷ longClause ∷ badClause ∷ longQuery ∷ badQuery ∷ badStore ∷ badScratch
+    ∷ badText ∷ noRoom ∷ badGoals ∷ looseClause ∷ looseQuery ∷ []
 
 abbrev numbered : ℕ → Refusal
 numbered n = getD refusals (n - 1) badHeader
@@ -28,6 +30,8 @@ listed badScratch = (omega arith, omega arith, refl)
 listed badText = (omega arith, omega arith, refl)
 listed noRoom = (omega arith, omega arith, refl)
 listed badGoals = (omega arith, omega arith, refl)
+listed looseClause = (omega arith, omega arith, refl)
+listed looseQuery = (omega arith, omega arith, refl)
 
 pub number-positive : (r : Refusal) → 1 ≤ refusalNumber r
 number-positive r = listed r .0

@@ -2,9 +2,12 @@
 use Prim.Native.Nat.{ℕ}
 use mathlib.Core.Bool.{Bool, true, false}
 use mathlib.Core.Option.{Option, none, some}
+use mathlib.Core.List.{List}
+use Rattle.rules.specs.Syntax.{Literal}
 use Rattle.rules.specs.Refusals as rules
+use Rattle.rules.specs.Decks.{openDeck, readQuery}
 use Rattle.deck.specs.declared.Refusal.{Refusal}
-use Rattle.deck.specs.declared.Refusal.the-variants.{Header, Symbol, Starts, LongClause, Clause, LongQuery, Query, Store, Scratch, Text, Room, Goals}
+use Rattle.deck.specs.declared.Refusal.the-variants.{Header, Symbol, Starts, LongClause, Clause, LongQuery, Query, Store, Scratch, Text, Room, Goals, LooseClause, LooseQuery}
 use Rattle.deck.specs.declared.Checked.{Checked}
 use Rattle.deck.specs.declared.Checked.the-variants.{Accepted, Refused}
 
@@ -21,6 +24,8 @@ refusalFor Scratch = rules.badScratch
 refusalFor Text = rules.badText
 refusalFor Room = rules.noRoom
 refusalFor Goals = rules.badGoals
+refusalFor LooseClause = rules.looseClause
+refusalFor LooseQuery = rules.looseQuery
 
 abbrev pub numberOf : Checked → ℕ
 numberOf Accepted = 0
@@ -30,3 +35,7 @@ numberOf (Refused why) = rules.refusalNumber (refusalFor why)
 unfoldable pub found : {A : Type 0} → Option A → Bool
 found none = false
 found (some a) = true
+
+-- Refusals 1 to 7: the words of a deck and of a query, whatever variables are loose.
+unfoldable pub checkWords : List ℕ → List ℕ → rules.Checked (List Literal)
+checkWords deckWords queryWords = rules.andThen (openDeck deckWords) (λ deck. readQuery deck queryWords)

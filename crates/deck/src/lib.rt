@@ -1,8 +1,8 @@
 // Opening a deck and checking a query (document 01, "The deck" and "Who can make the engine refuse"), and the deck's parts as the engine reads them.
 ghost use mathlib.Core.Path.{_≡_};
 ghost use Rattle.rules.specs.Refusals.{checkedNumber};
-ghost use Rattle.rules.specs.Decks.{openDeck, checkQuery};
-ghost use Rattle.deck.specs.Answers.{numberOf};
+ghost use Rattle.rules.specs.Decks.{openDeck};
+ghost use Rattle.deck.specs.Answers.{numberOf, checkWords};
 
 mod clauses;
 mod header;
@@ -27,6 +27,8 @@ pub enum Refusal {
     Text,
     Room,
     Goals,
+    LooseClause,
+    LooseQuery,
 }
 
 pub enum Checked {
@@ -60,6 +62,8 @@ fn refusal_number(why: Refusal) -> u32
         Refusal::Text => 10,
         Refusal::Room => 11,
         Refusal::Goals => 12,
+        Refusal::LooseClause => 13,
+        Refusal::LooseQuery => 14,
     }
 }
 
@@ -88,9 +92,9 @@ pub fn open(deck: &[u16]) -> Checked
     Checked::Accepted
 }
 
-// Refusals 1 to 5 of the deck, then 6 and 7 of the query.
+// Refusals 1 to 5 of the deck, then 6 and 7 of the query; loose variables are looked at by `loose`.
 pub fn check(deck: &[u16], query: &[u16]) -> Checked
-    ensures { λ r. ⌜ numberOf r ≡ checkedNumber (checkQuery (now (deck .entry)) (now (query .entry))) ⌝ }
+    ensures { λ r. ⌜ numberOf r ≡ checkedNumber (checkWords (now (deck .entry)) (now (query .entry))) ⌝ }
 {
     match open(deck) {
         Checked::Refused(why) => Checked::Refused(why),

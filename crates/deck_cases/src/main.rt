@@ -19,6 +19,8 @@ fn main() {
     queries::accepted();
     queries::no_literals();
     queries::misnumbered();
+    queries::loose();
+    queries::loose_clauses();
     queries::lengths();
     reading::kinds();
     reading::clauses(&damage::deck_l());

@@ -10,7 +10,6 @@ fn asked(name: &[u8], query: &[u16]) {
 pub fn accepted() {
     asked(b"no literals", &[]);
     asked(b"which leads", &[4, 32768]);
-    asked(b"negated with a variable", &[16387, 32768]);
     asked(b"drawn b", &[3, 1]);
     asked(
         b"three literals, two variables",
@@ -35,6 +34,36 @@ pub fn misnumbered() {
     asked(b"variable 2 second", &[4, 32768, 4, 32770]);
     asked(b"variable 1023", &[4, 33791]);
     asked(b"variable 1024", &[4, 33792]);
+}
+
+pub fn loose() {
+    asked(b"negated with a variable", &[16387, 32768]);
+    asked(b"another variable negated", &[4, 32768, 16387, 32769]);
+    asked(b"negated before it is held", &[16387, 32768, 2, 32768]);
+}
+
+fn checked(name: &[u8], deck: &[u16; 29], query: &[u16]) {
+    show::checked(name, deck, query);
+}
+
+// Deck L with the word at a place replaced: a clause may have a loose variable.
+fn asked_with(name: &[u8], at: usize, word: u16, query: &[u16]) {
+    let mut deck = damage::deck_l();
+    if at < 29 {
+        deck[at] = word;
+    }
+    checked(name, &deck, query);
+}
+
+pub fn loose_clauses() {
+    asked_with(b"end of x", 18, 32768, &[3, 0]);
+    asked_with(b"lead x if end y", 26, 32769, &[3, 0]);
+    asked_with(b"not drawn y", 28, 32769, &[3, 0]);
+    asked_with(b"not drawn b", 28, 1, &[3, 0]);
+    asked_with(b"not drawn y, no literals", 28, 32769, &[]);
+    asked_with(b"not drawn y, not drawn x", 28, 32769, &[16387, 32768]);
+    asked_with(b"not drawn y, no term", 28, 32769, &[4]);
+    asked_with(b"not drawn z", 28, 32770, &[16387, 32768]);
 }
 
 // The first `length` words, as a query.

@@ -13,5 +13,5 @@ pub fn opened(name: &[u8], deck: &[u16]) {
 }
 
 pub fn checked(name: &[u8], deck: &[u16], query: &[u16]) {
-    line(name, deck::number(deck::check(deck, query)) as u64);
+    line(name, deck::number(loose::check_query(deck, query)) as u64);
 }

@@ -1,13 +1,15 @@
 -- A run that carries on: its checks, and the goals that they let through.
 use Prim.Native.Nat.{ℕ, _+_, _≤_}
 use mathlib.Core.Path.{_≡_, refl, sym, _∙_, ap, subst}
+use mathlib.Core.Bool.{Bool, true, false}
 use mathlib.Core.Option.{Option, none, some}
 use mathlib.Core.List.{List, _++_}
 use native.Mathlib.Omega.{arith}
 use lib.ListN.{length, take}
 use lib.Seq.{take-at}
 use Rattle.rules.specs.Syntax.{Symbol, Deck, Goal}
-use Rattle.rules.specs.Refusals.{badGoals, Checked, refused, accepted, andThen, obtain, checkedNumber}
+use Rattle.rules.specs.Refusals.{badGoals, Checked, refused, accepted, andThen, require, obtain, checkedNumber}
+use Rattle.rules.specs.Loose.{tightClauses, checkTight}
 use Rattle.rules.specs.Decks.{openDeck}
 use Rattle.rules.specs.Goals.{Marked, unmarked, writeGoals, wordsOf, markedWords}
 use Rattle.rules.specs.WellFormed.{WfGoal, WfMarked}
@@ -28,14 +30,14 @@ use Rattle.stored.specs.declared.Found.{Found}
 use Rattle.stored.specs.declared.Found.the-variants.{Until, Nothing}
 use Rattle.report.specs.declared.Report.{Report}
 use Rattle.top_level.specs.Top.{InOrder, Topped}
-use Rattle.evaluation.specs.Results.{firstRefusal, resultOf, slices, OpenAs, CarriedAs, SomeInOrder}
+use Rattle.evaluation.specs.Results.{checkGoals, firstRefusal, resultOf, slices, OpenAs, CarriedAs, SomeInOrder}
 use Rattle.evaluation.specs.declared.Ran.the-variants as ran
 use Rattle.evaluation.specs.declared.carry.Carried as code
 use Rattle.evaluation.specs.declared.carry.Carried.the-variants as kind
 use Rattle.deck.proofs.RefusalLaws.{number-accepts, number-refuses}
 use Rattle.evaluation.proofs.RunLaws.{passes, sizes-are, gives-refused, gives-accepted}
 
--- CHECK 12
+-- CHECKS 12 AND 13
 pub in-order : (S : List Symbol) (store : List ℕ) (n k terms held end : ℕ) (o : OpenGoals) → readOpen S n k terms store ≡ some o
     → held ≡ wordsOf (o .pending) → end ≡ held + markedWords (o .parked) → end ≤ length store → InOrder S store held end (o .pending) (o .parked)
 in-order S store n k terms held end o e h w inside =
@@ -52,24 +54,39 @@ in-order S store n k terms held end o e h w inside =
       begins = ap (take end) (r .written) ∙ take-at (writeGoals ms) (r .rest) end size;
     }
 
-pub open-as : (S : List Symbol) (store : List ℕ) (n k terms held end : ℕ) (r : Found) → r ≡ Until held end → OpenFound S store n k terms r
-    → OpenAs S (obtain badGoals (readOpen S n k terms store)) store (kind.Goals held end)
-unfolding obtain
-open-as S store n k terms held end r e f =
-    let o = subst (OpenFound S store n k terms) e f in
-    (o .0, ap (obtain badGoals) (o .1), in-order S store n k terms held end (o .0) (o .1) (o .2) (o .3) (o .4))
+module _ (d : Deck) (store : List ℕ) (n k terms : ℕ) where
+  -- Goals are found: what the clauses decide.
+  pub goals-loose : (held end : ℕ) (r : Found) (t : Bool) → r ≡ Until held end → OpenFound (d .symbols) store n k terms r → t ≡ tightClauses (d .clauses) → t ≡ false
+      → OpenAs (d .symbols) (checkGoals d n k terms store) store (kind.Refused why.LooseClause)
+  unfolding checkGoals checkTight require obtain andThen
+  goals-loose held end r t e f c z = let o = subst (OpenFound (d .symbols) store n k terms) e f in let y : tightClauses (d .clauses) ≡ false = sym c ∙ z in rw (o .1, y)
 
-pub not-open : (S : List Symbol) (store : List ℕ) (n k terms : ℕ) (r : Found) → r ≡ Nothing → OpenFound S store n k terms r
-    → OpenAs S (obtain badGoals (readOpen S n k terms store)) store (kind.Refused why.Goals)
-unfolding obtain
-not-open S store n k terms r e f = ap (obtain badGoals) (subst (OpenFound S store n k terms) e f)
+  pub open-as : (held end : ℕ) (r : Found) (t : Bool) → r ≡ Until held end → OpenFound (d .symbols) store n k terms r → t ≡ tightClauses (d .clauses) → t ≡ true
+      → OpenAs (d .symbols) (checkGoals d n k terms store) store (kind.Goals held end)
+  unfolding checkGoals checkTight require obtain andThen
+  open-as held end r t e f c z =
+      let o = subst (OpenFound (d .symbols) store n k terms) e f in
+      let y : tightClauses (d .clauses) ≡ true = sym c ∙ z in
+      (o .0, rw (o .1, y), in-order (d .symbols) store n k terms held end (o .0) (o .1) (o .2) (o .3) (o .4))
+
+  pub not-open : (r : Found) → r ≡ Nothing → OpenFound (d .symbols) store n k terms r
+      → OpenAs (d .symbols) (checkGoals d n k terms store) store (kind.Refused why.Goals)
+  unfolding checkGoals obtain andThen
+  not-open r e f = let o = subst (OpenFound (d .symbols) store n k terms) e f in rw o
 
 -- ALL CHECKS
+goals-then : (c : Checked OpenGoals) (t : Checked (Unit {0})) (f : OpenGoals → Carried)
+    → andThen c (λ g. andThen t (λ _. accepted (f g))) ≡ andThen (andThen c (λ g. andThen t (λ _. accepted g))) (λ g. accepted (f g))
+unfolding andThen
+goals-then (refused n) t f = refl
+goals-then (accepted g) (refused n) f = refl
+goals-then (accepted g) (accepted u) f = refl
+
 both-pass : (deckWords : List ℕ) (n k terms : ℕ) (store : List ℕ) (scratchSize : ℕ) (d : Deck) (u : Unit {0}) → openDeck deckWords ≡ accepted d
     → checkSizes (length store) scratchSize ≡ accepted u
-    → carry deckWords n k terms store scratchSize ≡ andThen (obtain badGoals (readOpen (d .symbols) n k terms store)) (λ g. accepted (record { deck = d; goals = g }))
-unfolding carry andThen
-both-pass deckWords n k terms store scratchSize d u o s = rw (o, s)
+    → carry deckWords n k terms store scratchSize ≡ andThen (checkGoals d n k terms store) (λ g. accepted (record { deck = d; goals = g }))
+unfolding carry checkGoals andThen
+both-pass deckWords n k terms store scratchSize d u o s = rw (o, s) (goals-then (obtain badGoals (readOpen (d .symbols) n k terms store)) (checkTight d) (λ g. record { deck = d; goals = g }))
 
 module _ (deckWords : List ℕ) (n k terms : ℕ) (store : List ℕ) (scratchSize : ℕ) (words buffers : declared.Checked)
     (w : numberOf words ≡ checkedNumber (openDeck deckWords)) (b : numberOf buffers ≡ checkedNumber (checkSizes (length store) scratchSize)) where
@@ -91,7 +108,7 @@ module _ (deckWords : List ℕ) (n k terms : ℕ) (store : List ℕ) (scratchSiz
   pub record Passed : Type 0 where
     pub deck : Deck
     pub opens : openDeck deckWords ≡ accepted deck
-    pub goes : carries ≡ andThen (obtain badGoals (readOpen (deck .symbols) n k terms store)) (λ g. accepted (record { deck = deck; goals = g }))
+    pub goes : carries ≡ andThen (checkGoals deck n k terms store) (λ g. accepted (record { deck = deck; goals = g }))
 
   pub first-passed : firstRefusal words buffers ≡ answer.Accepted → Passed
   first-passed = go words buffers w b
@@ -104,7 +121,7 @@ module _ (deckWords : List ℕ) (n k terms : ℕ) (store : List ℕ) (scratchSiz
           record { deck = d .0; opens = d .1; goes = both-pass deckWords n k terms store scratchSize (d .0) (s .0) (d .1) (s .1) }
       go (answer.Refused x) y p q e = absurd (let z : _≡_ {A = ℕ} 0 1 = cc in omega arith)
 
-  pub carried-as : (p : Passed) (r : code.Carried) → OpenAs (p .deck .symbols) (obtain badGoals (readOpen (p .deck .symbols) n k terms store)) store r → CarriedAs carries store r
+  pub carried-as : (p : Passed) (r : code.Carried) → OpenAs (p .deck .symbols) (checkGoals (p .deck) n k terms store) store r → CarriedAs carries store r
   unfolding andThen
   carried-as p (kind.Refused x) h = p .goes ∙ rw h
   carried-as p (kind.Goals held end) h = (record { deck = p .deck; goals = h .0 }, p .goes ∙ rw (h .1), h .2)

@@ -1,4 +1,5 @@
 pub mod RunLaws
 pub mod CarryLaws
 pub mod PublicRun
+pub mod PublicTight
 pub mod PublicCarry

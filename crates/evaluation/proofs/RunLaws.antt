@@ -9,7 +9,8 @@ use lib.Dec.{leb}
 use borrow.Author.Tests.{le-leb, lt-leb, leb-true}
 use Rattle.rules.specs.Syntax.{Literal, Deck}
 use Rattle.rules.specs.Refusals.{Refusal, badStore, badScratch, Checked, refused, accepted, andThen, require, checkedNumber}
-use Rattle.rules.specs.Decks.{openDeck, readQuery, checkQuery, symbolWords}
+use Rattle.rules.specs.Decks.{openDeck, readQuery, symbolWords}
+use Rattle.rules.specs.Loose.{checkTightQuery}
 use Rattle.rules.specs.Goals.{unmarked, writeGoals, wordsOf, firstGoal}
 use Rattle.rules.specs.Evaluation.{Outcome, evaluate, evaluateLevel, zeroth, outcome, stopOf}
 use Rattle.rules.specs.Run.{run, checkSizes, report, returned, answersAfter, storeStart, Slices, Leaves, Gives, runOn, Ran}
@@ -19,8 +20,8 @@ use Rattle.rules.proofs.Demand3.{Accepted, run-accepted}
 use Rattle.deck.specs.declared.Refusal as declared
 use Rattle.deck.specs.declared.Checked as declared-checks
 use Rattle.deck.specs.declared.Checked.the-variants as answer
-use Rattle.deck.specs.Answers.{numberOf, refusalFor}
-use Rattle.deck.proofs.RefusalLaws.{number-accepts, number-refuses}
+use Rattle.deck.specs.Answers.{numberOf, refusalFor, checkWords}
+use Rattle.deck.proofs.RefusalLaws.{number-positive, refused-number, number-accepts, number-refuses}
 use Rattle.report.specs.Reports.{stopOf as stopOf′}
 use Rattle.report.specs.declared.Report.{Report}
 use Rattle.matching.specs.Bindings as bindings
@@ -31,7 +32,7 @@ use Rattle.clauses.specs.Clauses.{Blank}
 use Rattle.top_level.specs.Top.{Queries, opening, Topped}
 use Rattle.rules.specs.Goals.{Marked}
 use Rattle.rules.specs.Syntax.{Goal}
-use Rattle.evaluation.specs.Results.{firstRefusal, resultOf, slices}
+use Rattle.evaluation.specs.Results.{checkSized, firstRefusal, resultOf, slices}
 use Rattle.evaluation.specs.declared.Ran.the-variants as kind
 
 -- CHECKS ONE AFTER THE OTHER
@@ -41,22 +42,25 @@ module _ {A B : Type 0} where
   passes (refused n) next b e = absurd (let z : _≡_ {A = ℕ} 0 1 = cc in omega arith)
   passes (accepted a) next b e = (a, refl, e)
 
-  refuses : {C : Type 0} (c : Checked A) (next : A → Checked B) (later : A → B → Checked C) (n : Refusal) → andThen c next ≡ refused n
-      → andThen c (λ a. andThen (next a) (later a)) ≡ refused n
-  unfolding andThen
-  refuses (refused m) next later n e = let q : m ≡ n = cc in ap refused q
-  refuses (accepted a) next later n e = rw e
-
 required : (n : Refusal) (b : Bool) (u : Unit {0}) → require n b ≡ accepted u → b ≡ true
 unfolding require
 required n true u e = refl
 required n false u e = absurd (let z : _≡_ {A = ℕ} 0 1 = cc in omega arith)
 
--- What comes after a check without a refusal of its own does not change the number.
-then-number : {A B : Type 0} (c : Checked A) (b : B) → checkedNumber c ≡ checkedNumber (andThen c (λ _. accepted b))
+-- Of two checks, the number of the first that refuses.
+then-number : {A B : Type 0} (c : Checked A) (next : Checked B) (first second : declared-checks.Checked) → numberOf first ≡ checkedNumber c → numberOf second ≡ checkedNumber next
+    → numberOf (firstRefusal first second) ≡ checkedNumber (andThen c (λ _. next))
 unfolding andThen
-then-number (refused n) b = refl
-then-number (accepted a) b = refl
+then-number (refused n) next answer.Accepted second e f = absurd (omega (arith, number-positive n))
+then-number (refused n) next (answer.Refused why) second e f = e
+then-number (accepted a) next answer.Accepted second e f = f
+then-number (accepted a) next (answer.Refused why) second e f = absurd (refused-number why e)
+
+-- A check gives its number, whatever it lets through.
+last-number : {A B : Type 0} (c : Checked A) (b : B) → checkedNumber c ≡ checkedNumber (andThen c (λ _. accepted b))
+unfolding andThen
+last-number (refused n) b = refl
+last-number (accepted a) b = refl
 
 -- The sizes that are refused, and those that are let through.
 module _ (storeSize scratchSize : ℕ) where
@@ -86,33 +90,58 @@ module _ (storeSize scratchSize : ℕ) where
       (leb-true 1024 storeSize (b .0), leb-true storeSize 65535 (b .1), leb-true 8192 scratchSize (required badScratch (leb 8192 scratchSize) u (s .2)))
 
 module _ (deckWords queryWords : List ℕ) (total answerRoom storeSize scratchSize : ℕ) where
-  pub run-refused : (n : Refusal) → checkQuery deckWords queryWords ≡ refused n → run deckWords queryWords total answerRoom storeSize scratchSize ≡ refused n
-  unfolding run checkQuery
-  run-refused n e = refuses (openDeck deckWords) (λ d. readQuery d queryWords) _ n e
+  pub sized-number : (words buffers : declared-checks.Checked) → numberOf words ≡ checkedNumber (checkWords deckWords queryWords)
+      → numberOf buffers ≡ checkedNumber (checkSizes storeSize scratchSize) → numberOf (firstRefusal words buffers) ≡ checkedNumber (checkSized deckWords queryWords storeSize scratchSize)
+  unfolding checkSized
+  sized-number = then-number (checkWords deckWords queryWords) (checkSizes storeSize scratchSize)
 
-  -- The deck and the query are accepted: the sizes are left.
-  module _ (q : List Literal) (e : checkQuery deckWords queryWords ≡ accepted q) where
-    opened : (d : Deck) × (openDeck deckWords ≡ accepted d) × (readQuery d queryWords ≡ accepted q)
-    unfolding checkQuery
-    opened = passes (openDeck deckWords) (λ d. readQuery d queryWords) q e
+  -- What refusals 1 to 9 refuse, the run refuses.
+  pub run-refused : (why : declared.Refusal) → numberOf (answer.Refused why) ≡ checkedNumber (checkSized deckWords queryWords storeSize scratchSize)
+      → numberOf (answer.Refused why) ≡ checkedNumber (run deckWords queryWords total answerRoom storeSize scratchSize)
+  unfolding run checkSized checkWords andThen
+  run-refused why = deck (openDeck deckWords)
+    where
+      size : (s : Checked (Unit {0})) (next : Unit {0} → Checked Outcome) → numberOf (answer.Refused why) ≡ checkedNumber s → numberOf (answer.Refused why) ≡ checkedNumber (andThen s next)
+      size (refused n) next e = e
+      size (accepted u) next e = absurd (refused-number why e)
 
-    sizes : run deckWords queryWords total answerRoom storeSize scratchSize
-        ≡ andThen (checkSizes storeSize scratchSize) (λ _. accepted (evaluate (opened .0) answerRoom storeSize (firstGoal q ∷ []) [] total))
-    unfolding run andThen
-    sizes = rw (opened .1, opened .2)
+      query : (q : Checked (List Literal)) (next : List Literal → Unit {0} → Checked Outcome) → numberOf (answer.Refused why) ≡ checkedNumber (andThen q (λ _. checkSizes storeSize scratchSize))
+          → numberOf (answer.Refused why) ≡ checkedNumber (andThen q (λ l. andThen (checkSizes storeSize scratchSize) (next l)))
+      query (refused n) next e = e
+      query (accepted l) next e = size (checkSizes storeSize scratchSize) (next l) e
 
-    sizes-number : checkedNumber (checkSizes storeSize scratchSize) ≡ checkedNumber (run deckWords queryWords total answerRoom storeSize scratchSize)
-    sizes-number =
-        then-number (checkSizes storeSize scratchSize) (evaluate (opened .0) answerRoom storeSize (firstGoal q ∷ []) [] total)
-        ∙ ap (λ (c : Checked Outcome). checkedNumber c) (sym sizes)
+      deck : (o : Checked Deck) → numberOf (answer.Refused why) ≡ checkedNumber (andThen (andThen o (λ d. readQuery d queryWords)) (λ _. checkSizes storeSize scratchSize))
+          → numberOf (answer.Refused why) ≡ checkedNumber (andThen o (λ d. andThen (readQuery d queryWords) (λ q. andThen (checkSizes storeSize scratchSize)
+          (λ _. andThen (checkTightQuery d q) (λ _. accepted (evaluate d answerRoom storeSize (firstGoal q ∷ []) [] total))))))
+      deck (refused n) e = e
+      deck (accepted d) e = query (readQuery d queryWords) _ e
 
-  pub refusal-number : (words buffers : declared-checks.Checked) → numberOf words ≡ checkedNumber (checkQuery deckWords queryWords)
-      → numberOf buffers ≡ checkedNumber (checkSizes storeSize scratchSize)
-      → numberOf (firstRefusal words buffers) ≡ checkedNumber (run deckWords queryWords total answerRoom storeSize scratchSize)
-  refusal-number answer.Accepted buffers e f = let q = number-accepts (checkQuery deckWords queryWords) e in f ∙ sizes-number (q .0) (q .1)
-  refusal-number (answer.Refused why) buffers e f =
-      let r = number-refuses why (checkQuery deckWords queryWords) e in
-      e ∙ ap (λ (x : Checked (List Literal)). checkedNumber x) r ∙ ap (λ (x : Checked Outcome). checkedNumber x) (sym (run-refused _ r))
+  -- What they let through: loose variables are left.
+  pub record Sized : Type 0 where
+    pub deck : Deck
+    pub query : List Literal
+    pub opens : openDeck deckWords ≡ accepted deck
+    pub asks : readQuery deck queryWords ≡ accepted query
+    pub runs : checkedNumber (checkTightQuery deck query) ≡ checkedNumber (run deckWords queryWords total answerRoom storeSize scratchSize)
+
+  last-checks : (d : Deck) (q : List Literal) (u : Unit {0}) → openDeck deckWords ≡ accepted d → readQuery d queryWords ≡ accepted q → checkSizes storeSize scratchSize ≡ accepted u
+      → checkedNumber (checkTightQuery d q) ≡ checkedNumber (run deckWords queryWords total answerRoom storeSize scratchSize)
+  unfolding run andThen
+  last-checks d q u o a s = rw (o, a, s) (last-number (checkTightQuery d q) _)
+
+  pub run-sized : 0 ≡ checkedNumber (checkSized deckWords queryWords storeSize scratchSize) → Sized
+  unfolding checkSized checkWords
+  run-sized z =
+      let r = number-accepts (checkSized deckWords queryWords storeSize scratchSize) z in
+      let w = passes (checkWords deckWords queryWords) _ (r .0) (r .1) in
+      let d = passes (openDeck deckWords) _ (w .0) (w .1) in
+      record {
+        deck = d .0;
+        query = w .0;
+        opens = d .1;
+        asks = d .2;
+        runs = last-checks (d .0) (w .0) (r .0) (d .1) (d .2) (w .2);
+      }
 
   -- AN ACCEPTED RUN: what it evaluates, and the sizes.
   pub record Accepts : Type 0 where

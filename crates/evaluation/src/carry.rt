@@ -2,16 +2,15 @@
 ghost use mathlib.Core.Path.{_≡_};
 ghost use Prim.Native.Nat.{_≤_};
 ghost use lib.ListN.{length};
-ghost use mathlib.Core.Bool.{true};
 ghost use mathlib.Core.List.{List};
 ghost use Rattle.rules.specs.Syntax.{Deck, Goal};
 ghost use Rattle.rules.specs.Goals.{Marked};
-ghost use Rattle.rules.specs.Refusals.{badGoals, accepted, obtain};
-ghost use Rattle.rules.specs.Decks.{headerFits, openDeck};
-ghost use Rattle.rules.specs.Stored.{readOpen};
+ghost use Rattle.rules.specs.Refusals.{accepted};
+ghost use Rattle.rules.specs.Decks.{openDeck};
 ghost use Rattle.rules.specs.Run.{carry, RanOn};
+ghost use Rattle.clauses.specs.Clauses.{Opens};
 ghost use Rattle.top_level.specs.Top.{InOrder, Topped};
-ghost use Rattle.evaluation.specs.Results.{resultOf, slices, OpenAs, CarriedAs, SomeInOrder};
+ghost use Rattle.evaluation.specs.Results.{checkGoals, resultOf, slices, OpenAs, CarriedAs, SomeInOrder};
 use crate::Ran;
 use crate::first_refusal;
 use crate::from_goals;
@@ -27,7 +26,7 @@ pub enum Carried {
     Goals(usize, usize),
 }
 
-// Refusals 1 to 5 of the deck, 8 and 9 of the sizes, then 12 of the goals.
+// Refusals 1 to 5 of the deck, 8 and 9 of the sizes, then 12 of the goals and 13 of the deck.
 fn checks(
     deck: &[u16],
     pending: u64,
@@ -46,13 +45,18 @@ fn checks(
     }
 }
 
-// Refusal 12, or the goals.
+// Refusal 12, then 13, or the goals.
 fn open_goals(deck: &[u16], pending: u64, parked: u64, terms: u64, store: &[u16]) -> Carried
-    requires { ⌜ headerFits (now deck) ≡ true ⌝ }
-    ensures { λ r. ⌜ ((d : Deck) → openDeck (now (deck .entry)) ≡ accepted d → OpenAs (d .symbols) (obtain badGoals (readOpen (d .symbols) pending parked terms (now (store .entry)))) (now (store .entry)) r) ⌝ }
+    requires { ⌜ Opens (now deck) ⌝ }
+    ensures { λ r. ⌜ ((d : Deck) → openDeck (now (deck .entry)) ≡ accepted d → OpenAs (d .symbols) (checkGoals d pending parked terms (now (store .entry))) (now (store .entry)) r) ⌝ }
 {
     match stored::deck_goals(deck, store, pending, parked, terms) {
-        Found::Until(held, end) => Carried::Goals(held, end),
+        Found::Until(held, end) => {
+            if !loose::clauses_tight(deck) {
+                return Carried::Refused(Refusal::LooseClause);
+            }
+            Carried::Goals(held, end)
+        }
         Found::Nothing => Carried::Refused(Refusal::Goals),
     }
 }

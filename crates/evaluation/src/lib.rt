@@ -10,7 +10,7 @@ ghost use Rattle.rules.specs.Syntax.{Deck, Goal};
 ghost use Rattle.rules.specs.Goals.{Marked};
 ghost use Rattle.rules.specs.Decks.{openDeck};
 ghost use Rattle.top_level.specs.Top.{Stored, opening, SomeOpening, Topped};
-ghost use Rattle.evaluation.specs.Results.{firstRefusal, resultOf, slices};
+ghost use Rattle.evaluation.specs.Results.{checkSized, firstRefusal, resultOf, slices};
 use deck::Checked;
 use deck::Refusal;
 use report::Report;
@@ -24,12 +24,22 @@ pub enum Ran {
 }
 
 // Refusals 1 to 7 of the deck and the query, then 8 and 9 of the sizes of the store and the scratch.
-fn refusal(deck: &[u16], query: &[u16], store: usize, scratch: usize) -> Checked
-    ensures { λ r. ⌜ ((budget answerRoom : ℕ) → numberOf r ≡ checkedNumber (run (now (deck .entry)) (now (query .entry)) budget answerRoom store scratch)) ⌝ }
+fn sized(deck: &[u16], query: &[u16], store: usize, scratch: usize) -> Checked
+    ensures { λ r. ⌜ numberOf r ≡ checkedNumber (checkSized (now (deck .entry)) (now (query .entry)) store scratch) ⌝ }
 {
     let words = deck::check(deck, query);
     let buffers = sizes(store, scratch);
     first_refusal(words, buffers)
+}
+
+// These, then 13 and 14, loose variables of the deck and the query.
+fn refusal(deck: &[u16], query: &[u16], store: usize, scratch: usize) -> Checked
+    ensures { λ r. ⌜ ((budget answerRoom : ℕ) → numberOf r ≡ checkedNumber (run (now (deck .entry)) (now (query .entry)) budget answerRoom store scratch)) ⌝ }
+{
+    match sized(deck, query, store, scratch) {
+        Checked::Refused(why) => Checked::Refused(why),
+        Checked::Accepted => loose::check(deck, query),
+    }
 }
 
 // The sizes of the store and the scratch.

@@ -22,7 +22,7 @@ pub extern "C" fn leads_open(deck: &[u16]) -> u32
 pub extern "C" fn leads_check(deck: &[u16], query: &[u16]) -> u32
     ensures { λ r. ⌜ r ≡ checkedNumber (checkQuery (now (deck .entry)) (now (query .entry))) ⌝ }
 {
-    deck::number(deck::check(deck, query))
+    deck::number(loose::check_query(deck, query))
 }
 
 #[no_mangle]

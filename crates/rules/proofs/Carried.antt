@@ -2,16 +2,18 @@
 use Prim.Native.Nat.{ℕ, suc, _+_, _≤_}
 use mathlib.Core.Path.{_≡_, refl, sym, _∙_, ap, ap₂, subst}
 use mathlib.Core.Logic.{_↔_, Iff·rfl, Iff·trans}
+use mathlib.Core.Bool.{true}
 use mathlib.Core.Option.{Option, none, some, Option·some-injective}
 use mathlib.Core.List.{List, [], _∷_, _++_, append-assoc}
 use native.Mathlib.Omega.{arith}
 use lib.ListN.{length, take, drop, take-append-drop}
 use Rattle.rules.specs.Terms.{count}
 use Rattle.rules.specs.Syntax.{Symbol, Literal, Deck, Goal}
-use Rattle.rules.specs.Refusals.{Refusal, badGoals, Checked, refused, accepted, andThen, obtain}
+use Rattle.rules.specs.Refusals.{Refusal, badGoals, looseClause, Checked, refused, accepted, andThen, obtain, require}
 use Rattle.rules.specs.Decks.{openDeck, readQuery}
 use Rattle.rules.specs.Goals.{Marked, unmarked, writeGoals, readGoals, variables, queryVariables, firstGoal}
 use Rattle.rules.specs.Stored.{OpenGoals, readOpen}
+use Rattle.rules.specs.Loose.{tightClauses, checkTight}
 use Rattle.rules.specs.Evaluation.{Outcome, evaluate}
 use Rattle.rules.specs.Run.{checkSizes, Carried, carry, carryOn, carryFrom, runOn, Report, report, returned, storeStart, Slices, Filled, Leaves, Ran, RanOn}
 use Rattle.rules.specs.WellFormed.{All, WfGoal, WfMarked}
@@ -27,15 +29,16 @@ use Rattle.rules.proofs.GoalsKept.{WellFormed, evaluate-keeps}
 use Rattle.rules.proofs.EndLaws.{Bare, answers-bare, steps-within}
 use Rattle.rules.proofs.Cover.{remaining, evaluate-covers}
 use Rattle.rules.proofs.ThreeCover.{evaluate-stays, evaluate-values}
-use Rattle.rules.proofs.Demand3.{passed, run-accepted, left-read}
+use Rattle.rules.proofs.Demand3.{passed, required, run-accepted, left-read}
 use Rattle.rules.proofs.StoredLaws.{Fits, ParkedFits, OpenReads, open-reads, open-list, read-open, left-fit}
 
--- An accepted run is the evaluation of the open goals that were read, over the deck that was opened.
+-- An accepted run is the evaluation of the open goals that were read, over the deck that was opened, which has no loose variable.
 pub record AcceptedOn (deckWords : List ℕ) (pending parked terms budget answerRoom : ℕ) (storeWords : List ℕ) (o : Outcome) : Type 0 where
   pub deck : Deck
   pub goals : OpenGoals
   pub opens : openDeck deckWords ≡ accepted deck
   pub carries : readOpen (deck .symbols) pending parked terms storeWords ≡ some goals
+  pub tightDeck : tightClauses (deck .clauses) ≡ true
   pub evaluates : o ≡ evaluate deck answerRoom (length storeWords) (goals .pending) (goals .parked) budget
 
 obtained : {A : Type 0} {a : A} (n : Refusal) (x : Option A) → obtain n x ≡ accepted a → x ≡ some a
@@ -45,17 +48,18 @@ obtained n (some b) e = cc
 
 pub carry-parts : (deckWords : List ℕ) (pending parked terms : ℕ) (storeWords : List ℕ) (scratchSize : ℕ) (c : Carried)
     → carry deckWords pending parked terms storeWords scratchSize ≡ accepted c
-    → (openDeck deckWords ≡ accepted (c .deck)) × (readOpen (c .deck .symbols) pending parked terms storeWords ≡ some (c .goals))
-unfolding carry
+    → (openDeck deckWords ≡ accepted (c .deck)) × (readOpen (c .deck .symbols) pending parked terms storeWords ≡ some (c .goals)) × (tightClauses (c .deck .clauses) ≡ true)
+unfolding carry checkTight
 carry-parts deckWords pending parked terms storeWords scratchSize c e =
     let d = passed (openDeck deckWords) _ e in
     let s = passed (checkSizes (length storeWords) scratchSize) _ (d .2) in
     let g = passed (obtain badGoals (readOpen (d .0 .symbols) pending parked terms storeWords)) _ (s .2) in
+    let t = passed (checkTight (d .0)) _ (g .2) in
     let k : Carried = record { deck = d .0; goals = g .0 } in
-    let back : accepted k ≡ accepted c = g .2 in
+    let back : accepted k ≡ accepted c = t .2 in
     let same : k ≡ c = cc in
-    subst (λ (x : Carried). (openDeck deckWords ≡ accepted (x .deck)) × (readOpen (x .deck .symbols) pending parked terms storeWords ≡ some (x .goals))) same
-    (d .1, obtained badGoals (readOpen (d .0 .symbols) pending parked terms storeWords) (g .1))
+    subst (λ (x : Carried). (openDeck deckWords ≡ accepted (x .deck)) × (readOpen (x .deck .symbols) pending parked terms storeWords ≡ some (x .goals)) × (tightClauses (x .deck .clauses) ≡ true)) same
+    (d .1, obtained badGoals (readOpen (d .0 .symbols) pending parked terms storeWords) (g .1), required looseClause (tightClauses (d .0 .clauses)) (t .1))
 
 pub carry-accepted :
     (deckWords : List ℕ) (pending parked terms : ℕ) (budget answerRoom : ℕ) (storeWords : List ℕ) (scratchSize : ℕ) (o : Outcome)
@@ -65,7 +69,7 @@ unfolding carryOn
 carry-accepted deckWords pending parked terms budget answerRoom storeWords scratchSize o e =
     let c = passed (carry deckWords pending parked terms storeWords scratchSize) _ e in
     let parts = carry-parts deckWords pending parked terms storeWords scratchSize (c .0) (c .1) in
-    record { deck = c .0 .deck; goals = c .0 .goals; opens = parts .0; carries = parts .1; evaluates = cc }
+    record { deck = c .0 .deck; goals = c .0 .goals; opens = parts .0; carries = parts .1; tightDeck = parts .2; evaluates = cc }
 
 -- The words of open goals, pending ones first.
 abbrev pub openWords : OpenGoals → List ℕ
@@ -82,15 +86,15 @@ pub record CarriesOn (deckWords : List ℕ) (terms : ℕ) (r : Report) (exit : S
 
 -- All checks are passed.
 all-pass : (deckWords : List ℕ) (pending parked terms : ℕ) (storeWords : List ℕ) (scratchSize : ℕ) (deck : Deck) (goals : OpenGoals) → openDeck deckWords ≡ accepted deck
-    → checkSizes (length storeWords) scratchSize ≡ accepted tt → readOpen (deck .symbols) pending parked terms storeWords ≡ some goals
+    → checkSizes (length storeWords) scratchSize ≡ accepted tt → readOpen (deck .symbols) pending parked terms storeWords ≡ some goals → tightClauses (deck .clauses) ≡ true
     → carry deckWords pending parked terms storeWords scratchSize ≡ accepted (record { deck = deck; goals = goals })
-unfolding carry andThen obtain
-all-pass deckWords pending parked terms storeWords scratchSize deck goals o s g = rw (o, s, g)
+unfolding carry checkTight andThen obtain require
+all-pass deckWords pending parked terms storeWords scratchSize deck goals o s g t = rw (o, s, g, t)
 
-left-carries : (deckWords : List ℕ) (terms : ℕ) (exit entry : Slices) (deck : Deck) → openDeck deckWords ≡ accepted deck → (o : Outcome)
+left-carries : (deckWords : List ℕ) (terms : ℕ) (exit entry : Slices) (deck : Deck) → openDeck deckWords ≡ accepted deck → tightClauses (deck .clauses) ≡ true → (o : Outcome)
     → Filled o entry exit → All (Fits (deck .symbols) terms) (o .pending) → All (ParkedFits (deck .symbols) terms) (o .parked) → CarriesOn deckWords terms (report o) exit
 unfolding report storeStart
-left-carries deckWords terms exit entry deck opens o left p q =
+left-carries deckWords terms exit entry deck opens tight o left p q =
     let goals : OpenGoals = record { pending = o .pending; parked = o .parked } in
     let n : ℕ = length (openWords goals) in
     record {
@@ -101,7 +105,7 @@ left-carries deckWords terms exit entry deck opens o left p q =
           let whole : openWords goals ++ drop n ws ≡ ws = ap (λ xs. xs ++ drop n ws) (sym begins) ∙ take-append-drop n ws in
           all-pass deckWords (length (o .pending)) (length (o .parked)) terms ws scratchSize deck goals opens sizes
           (subst (λ xs. readOpen (deck .symbols) (length (o .pending)) (length (o .parked)) terms xs ≡ some goals) whole
-          (read-open (deck .symbols) terms (o .pending) (o .parked) (drop n ws) p q));
+          (read-open (deck .symbols) terms (o .pending) (o .parked) (drop n ws) p q)) tight;
     }
 
 -- A statement about the goals before and after every evaluation.
@@ -153,7 +157,7 @@ module _ (deckWords : List ℕ) (pending parked terms budget : ℕ) (entry exit 
   carries-of =
       let fit = left-fit deck (opened-written deckWords deck (a .opens) .1) terms (a .goals .pending) (a .goals .parked) (before-reads .pending) (before-reads .parked)
       (length (entry .answers)) (length (entry .store)) budget in
-      left-carries deckWords terms exit entry deck (a .opens) o left
+      left-carries deckWords terms exit entry deck (a .opens) (a .tightDeck) o left
       (subst (λ (x : Outcome). All (Fits (deck .symbols) terms) (x .pending)) (sym (a .evaluates)) (fit .0))
       (subst (λ (x : Outcome). All (ParkedFits (deck .symbols) terms) (x .parked)) (sym (a .evaluates)) (fit .1))
 
@@ -227,7 +231,7 @@ fresh-carries deckWords queryWords budget entry exit r ran = go (runOn deckWords
           a .query,
           a .opens,
           a .asks,
-          subst (λ (x : Report). CarriesOn deckWords terms x exit) same (left-carries deckWords terms exit entry deck (a .opens) o left
+          subst (λ (x : Report). CarriesOn deckWords terms x exit) same (left-carries deckWords terms exit entry deck (a .opens) (a .tightDeck) o left
               (subst (λ (x : Outcome). All (Fits (deck .symbols) terms) (x .pending)) (sym (a .evaluates)) (fit .0))
               (subst (λ (x : Outcome). All (ParkedFits (deck .symbols) terms) (x .parked)) (sym (a .evaluates)) (fit .1))),
         )

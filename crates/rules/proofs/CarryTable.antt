@@ -3,13 +3,13 @@ use Prim.Native.Nat.{ℕ, _-_}
 use mathlib.Core.Path.{_≡_, refl}
 use mathlib.Core.List.{List, [], _∷_, _++_, map}
 use lib.ListN.{length, replicate}
-use Rattle.rules.specs.Refusals.{Checked, refused, badStore, badScratch, badGoals}
-use Rattle.rules.specs.Goals.{undecided}
-use Rattle.rules.specs.Evaluation.{finished, budget}
-use Rattle.rules.specs.Run.{carry, carryOn}
+use Rattle.rules.specs.Refusals.{Checked, refused, badStore, badScratch, badGoals, looseClause}
+use Rattle.rules.specs.Goals.{floundered, undecided}
+use Rattle.rules.specs.Evaluation.{Outcome, finished, budget}
+use Rattle.rules.specs.Run.{carry, carryOn, storeStart}
 use Rattle.rules.specs.All.{rules}
-use Rattle.rules.proofs.Cases.{Line, shows, shown}
-use Rattle.rules.proofs.Table.{deckL}
+use Rattle.rules.proofs.Cases.{Line, shows, shown, wordsOfRun}
+use Rattle.rules.proofs.Table.{deckL, deckQ}
 use Rattle.rules.proofs.MoreRuns.{deckN}
 
 -- A deck, the numbers of pending and parked goals and of answer terms, the words at the start of a store of 1,024, the budget, and what the run shows.
@@ -26,16 +26,21 @@ abbrev carry-on : List ℕ → ℕ → ℕ → ℕ → List ℕ → ℕ → Chec
 carry-on deck pending parked terms words total expected =
     record { deck = deck; pending = pending; parked = parked; terms = terms; words = words; budget = total; expected = expected }
 
+abbrev carriedOn : Carry → Checked Outcome
+carriedOn c =
+    carryOn (carry (c .deck) (c .pending) (c .parked) (c .terms) (c .words ++ replicate (1024 - length (c .words)) 7) 8192)
+    (c .budget) 8192 1024
+
 abbrev carried : Carry → Checked Line
-carried c =
-    shown (carryOn (carry (c .deck) (c .pending) (c .parked) (c .terms) (c .words ++ replicate (1024 - length (c .words)) 7) 8192)
-    (c .budget) 8192 1024)
+carried c = shown (carriedOn c)
 
 -- a if not b, b if not c, c: the goal "not b" that a run of the query a has left is done to its end, or is cut short again; with budget 0 it stays.
 -- The goal c, pending, and "not b", parked as undecided, which remains parked. No goals at all, with any number of answer terms and budget 0.
 -- Refused: a pending goal marked 1; a parked goal marked 0; mark 5; a word too few; another number of answer terms; a count too many; as great a count
 -- as there is.
 -- Deck L: the goal "x such that x is an end", and the same with its variable misnumbered.
+-- Deck L: the goal "x such that x is not drawn", filled in by hand, is parked as floundered.
+-- The q(x, f(x)) deck, whose variable is loose: with no goals, and with a word too few.
 abbrev pub carries : List Carry
 carries =
     carry-on deckN 1 0 0 (3 ∷ 0 ∷ 16385 ∷ []) 6 (shows finished 6 1 0 [])
@@ -52,6 +57,9 @@ carries =
     ∷ carry-on deckN 18446744073709551615 0 0 (3 ∷ 0 ∷ 16385 ∷ []) 9 (refused badGoals)
     ∷ carry-on deckL 1 0 1 (5 ∷ 1 ∷ 32768 ∷ 2 ∷ 32768 ∷ []) 9 (shows finished 3 2 0 [])
     ∷ carry-on deckL 1 0 1 (5 ∷ 1 ∷ 32769 ∷ 2 ∷ 32769 ∷ []) 9 (refused badGoals)
+    ∷ carry-on deckL 1 0 1 (5 ∷ 1 ∷ 32768 ∷ 16387 ∷ 32768 ∷ []) 9 (shows finished 1 0 0 (floundered ∷ []))
+    ∷ carry-on deckQ 0 0 0 [] 9 (refused looseClause)
+    ∷ carry-on deckQ 1 0 0 (3 ∷ []) 9 (refused badGoals)
     ∷ []
 
 pub carries-show : map carried carries ≡ map (λ c. c .expected) carries
@@ -65,3 +73,10 @@ pub carries-order :
     × (carry deckN 1 0 0 (replicate 1024 7) 8192 ≡ refused badGoals)
 unfolding rules
 carries-order = (refl, refl, refl)
+
+-- The words of the floundered goal.
+pub floundered-words :
+    wordsOfRun storeStart (carriedOn (carry-on deckL 1 0 1 (5 ∷ 1 ∷ 32768 ∷ 16387 ∷ 32768 ∷ []) 9 (shows finished 1 0 0 (floundered ∷ []))))
+    ≡ 4101 ∷ 1 ∷ 32768 ∷ 16387 ∷ 32768 ∷ []
+unfolding rules
+floundered-words = refl

@@ -4,14 +4,16 @@ use Prim.Native.Nat.{ℕ, _+_, _≤_}
 use mathlib.Core.Path.{_≡_, refl, sym, _∙_, ap, subst}
 use mathlib.Core.Logic.{_↔_, ∥∥₁-elim}
 use mathlib.Core.HLevel.{⊥-prop}
+use mathlib.Core.Bool.{Bool, true, false}
 use mathlib.Core.List.{List, [], _∷_, _++_, append-nil}
 use mathlib.Core.Option.{some}
 use native.Mathlib.Omega.{arith}
 use lib.ListN.{length, drop, length-append, take-append-drop}
 use Rattle.rules.specs.Syntax.{Literal, Deck, varsLiterals}
-use Rattle.rules.specs.Refusals.{Checked, refused, accepted, andThen}
+use Rattle.rules.specs.Refusals.{Refusal, looseClause, looseQuery, Checked, refused, accepted, andThen, require}
 use Rattle.rules.specs.Decks.{openDeck, readQuery}
 use Rattle.rules.specs.Goals.{Marked, unmarked, writeGoals, readGoals, queryVariables, firstGoal}
+use Rattle.rules.specs.Loose.{tightQuery, tightClauses, checkTight, checkTightQuery}
 use Rattle.rules.specs.Evaluation.{Outcome, evaluate}
 use Rattle.rules.specs.Run.{checkSizes, run, Report, report, returned, answersAfter, storeStart, Slices, Filled, Leaves, runOn, Ran}
 use Rattle.rules.specs.Meaning.{Inds, Interpretation, Satisfies, individuals, QueryHolds, SomeCovers}
@@ -28,18 +30,32 @@ use Rattle.rules.proofs.EndLaws.{Bare, answers-bare}
 use Rattle.rules.proofs.Cover.{query-covers}
 use Rattle.rules.proofs.ThreeCover.{query-stays, query-values}
 
--- An accepted run is the evaluation of the query that was read, over the deck that was opened.
+-- An accepted run is the evaluation of the query that was read, over the deck that was opened; neither has a loose variable.
 pub record Accepted (deckWords queryWords : List ℕ) (budget answerRoom storeSize : ℕ) (o : Outcome) : Type 0 where
   pub deck : Deck
   pub query : List Literal
   pub opens : openDeck deckWords ≡ accepted deck
   pub asks : readQuery deck queryWords ≡ accepted query
+  pub tightDeck : tightClauses (deck .clauses) ≡ true
+  pub tightAsked : tightQuery query ≡ true
   pub evaluates : o ≡ evaluate deck answerRoom storeSize (firstGoal query ∷ []) [] budget
 
 pub passed : {A B : Type 0} {b : B} (c : Checked A) (next : A → Checked B) → andThen c next ≡ accepted b → (a : A) × (c ≡ accepted a) × (next a ≡ accepted b)
 unfolding andThen
 passed (refused n) next e = absurd (let z : _≡_ {A = ℕ} 0 1 = cc in omega arith)
 passed (accepted a) next e = (a, refl, e)
+
+pub required : (n : Refusal) (b : Bool) {u : Unit {0}} → require n b ≡ accepted u → b ≡ true
+unfolding require
+required n true e = refl
+required n false e = absurd (let z : _≡_ {A = ℕ} 0 1 = cc in omega arith)
+
+tight-passed : (deck : Deck) (query : List Literal) (u : Unit {0}) → checkTightQuery deck query ≡ accepted u
+    → (tightClauses (deck .clauses) ≡ true) × (tightQuery query ≡ true)
+unfolding checkTightQuery checkTight
+tight-passed deck query u e =
+    let d = passed (checkTight deck) _ e in
+    (required looseClause (tightClauses (deck .clauses)) (d .1), required looseQuery (tightQuery query) (d .2))
 
 pub run-accepted :
     (deckWords queryWords : List ℕ) (budget answerRoom storeSize scratchSize : ℕ) (o : Outcome) → run deckWords queryWords budget answerRoom storeSize scratchSize ≡ accepted o
@@ -49,7 +65,9 @@ run-accepted deckWords queryWords budget answerRoom storeSize scratchSize o e =
     let d = passed (openDeck deckWords) _ e in
     let q = passed (readQuery (d .0) queryWords) _ (d .2) in
     let s = passed (checkSizes storeSize scratchSize) _ (q .2) in
-    record { deck = d .0; query = q .0; opens = d .1; asks = q .1; evaluates = cc }
+    let t = passed (checkTightQuery (d .0) (q .0)) _ (s .2) in
+    let b = tight-passed (d .0) (q .0) (t .0) (t .1) in
+    record { deck = d .0; query = q .0; opens = d .1; asks = q .1; tightDeck = b .0; tightAsked = b .1; evaluates = cc }
 
 -- Goals that are well formed are read from words that begin with their writing.
 pub left-read :

@@ -50,7 +50,7 @@ unfolding variables
 variables-wf S [] = tt
 variables-wf S (v ∷ vs) = (tt, variables-wf S vs)
 
-variables-vars : (vs rest : List ℕ) → varsTerms (variables vs) rest ≡ vs ++ rest
+pub variables-vars : (vs rest : List ℕ) → varsTerms (variables vs) rest ≡ vs ++ rest
 unfolding variables
 variables-vars [] rest = refl
 variables-vars (v ∷ vs) rest = ap (v ∷_) (variables-vars vs rest)

@@ -45,7 +45,7 @@ module _ (P : Goal → Type 0) (Q : Clause → Type 0) where
   collect-all by h [] k = tt
   collect-all by h (c ∷ cs) k = keep-all P (by c) (collect by cs) (h c (k .0)) (collect-all by h cs (k .1))
 
-about-all : (Q : Clause → Type 0) (p : ℕ) (cs : List Clause) → All Q cs → All Q (clausesAbout p cs)
+pub about-all : (Q : Clause → Type 0) (p : ℕ) (cs : List Clause) → All Q cs → All Q (clausesAbout p cs)
 unfolding clausesAbout
 about-all Q p [] k = tt
 about-all Q p (c ∷ cs) k =

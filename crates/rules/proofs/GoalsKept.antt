@@ -48,7 +48,7 @@ WellFormed S = record { pending = WfGoal S; parked = WfMarked S; answer = WfGoal
 pub wf-kept : (S : List Symbol) (clauses : List Clause) → All (WfClause S) clauses → (g : Goal) → WfGoal S g → Kept (WellFormed S) clauses g
 wf-kept S clauses wf g w = record {
   answered = λ e. w;
-  parks = λ m h. w;
+  parks = λ m h s. w;
   derives = resolvents-wf S clauses wf g (record { answers = w .answers; literals = w .literals });
   asks = λ before p ts after e closed.
       let v : WfGoal S (withLiterals g (before ++ (neg p ts ∷ after))) = subst (λ ls. WfGoal S (withLiterals g ls)) e w in

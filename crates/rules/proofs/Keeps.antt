@@ -7,7 +7,7 @@ use mathlib.Core.List.{List, [], _∷_, _++_, List·Memᴰ}
 use Rattle.rules.specs.Terms.{Terms, nil, varsTerms}
 use Rattle.rules.specs.Syntax.{Literal, pos, neg, Clause, Deck, Goal}
 use Rattle.rules.specs.Goals.{Mark, pending, floundered, undecided, oversized, deep, Marked, marked}
-use Rattle.rules.specs.Resolution.{resolvents, anyOversized}
+use Rattle.rules.specs.Resolution.{nothing, select, resolvents, anyOversized}
 use Rattle.rules.specs.WellFormed.{All}
 use Rattle.rules.specs.Evaluation.{Level, startLevel, withPending, withParked, withAnswer, Place, zeroth, Act, noLiterals, park, derive, decide, question, Next, halt, step, success, ask, Ended, ended, nextOf, evaluateLevel, Outcome, outcome, evaluate}
 use Rattle.rules.proofs.ListLaws.{all-append, all-snoc, all-of, all-in}
@@ -35,10 +35,18 @@ Parks undecided = Unit {0}
 Parks oversized = Unit {0}
 Parks deep = Unit {0}
 
+-- A goal is parked as floundered only if it has literals and none of them can be selected.
+abbrev pub Stuck : Goal → Mark → Type 0
+Stuck g pending = Unit {0}
+Stuck g floundered = (g .literals ≡ [] → ⊥) × (select (g .literals) ≡ nothing)
+Stuck g undecided = Unit {0}
+Stuck g oversized = Unit {0}
+Stuck g deep = Unit {0}
+
 -- What is asked of a goal, so that each step on it keeps the property.
 pub record Kept (J : Invariant) (clauses : List Clause) (g : Goal) : Type 0 where
   pub answered : g .literals ≡ [] → J .answer g
-  pub parks : (m : Mark) → Parks m → J .parked (marked m g)
+  pub parks : (m : Mark) → Parks m → Stuck g m → J .parked (marked m g)
   pub derives :
       (before : List Literal) (p : ℕ) (ts : Terms) (after : List Literal) → g .literals ≡ before ++ (pos p ts ∷ after)
       → anyOversized (resolvents clauses g before p ts after) ≡ false → All (J .pending) (resolvents clauses g before p ts after)
@@ -56,14 +64,14 @@ Makes J g (decide p ts others) = J .pending (atomGoal p ts) × J .pending (withL
 module _ (J : Invariant) (clauses : List Clause) (g : Goal) (h : Kept J clauses g) where
   makes : {below : ℕ} {a : Act} → Acts clauses below g a → Makes J g a
   makes (bare e) = h .answered e
-  makes (flounders e) = h .parks floundered tt
-  makes (overflows e o) = h .parks oversized tt
+  makes (flounders n e) = h .parks floundered tt (n, e)
+  makes (overflows e o) = h .parks oversized tt tt
   makes (resolves {before} {after} {p} {ts} e o) = h .derives before p ts after (subst (Selected (g .literals)) e (select-selected (g .literals))) o
-  makes (bottoms e z) = h .parks deep tt
+  makes (bottoms e z) = h .parks deep tt tt
   makes (asks {before} {after} {p} {ts = ts} e z) =
       let s = subst (Selected (g .literals)) e (select-selected (g .literals)) in
       let k = h .asks before p ts after (s .0) (s .1) in
-      (k .0, k .1, h .parks undecided tt)
+      (k .0, k .1, h .parks undecided tt tt)
 
 -- LEVELS
 module _ (J : Invariant) where
@@ -175,7 +183,7 @@ Shape before = record {
 shape-kept : (before : List Marked) (clauses : List Clause) (g : Goal) → Kept (Shape before) clauses g
 shape-kept before clauses g = record {
   answered = λ e. e;
-  parks = λ m h. inr h;
+  parks = λ m h s. inr h;
   derives = λ b p ts a e o. all-of (λ g. Unit {0}) (λ g. tt) (resolvents clauses g b p ts a);
   asks = λ b p ts a e o. (tt, tt);
 }

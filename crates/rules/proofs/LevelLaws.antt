@@ -81,7 +81,7 @@ module _ {clauses : List Clause} {answerRoom storeSize : ℕ} where
   asked-less n a = omega (arith, runs-left a, ask-pays n)
 
 -- A stop other than "finished" stops the run.
-interrupted-verdict : (s : Stop) (ks : List Marked) → Unfinished s → verdictOf (stopped s) ks ≡ interrupted s
+pub interrupted-verdict : (s : Stop) (ks : List Marked) → Unfinished s → verdictOf (stopped s) ks ≡ interrupted s
 unfolding verdictOf
 interrupted-verdict finished ks h = absurd h
 interrupted-verdict budget ks h = refl

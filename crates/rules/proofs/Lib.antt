@@ -37,6 +37,14 @@ pub mod Demand3
 pub mod StoredLaws
 pub mod CarryTable
 pub mod Carried
+-- What a run passes on every level.
+pub mod PassLaws
+-- Loose variables.
+pub mod OccursLaws
+pub mod TightLaws
+pub mod TightRuns
+pub mod FlatLaws
+pub mod DeckCases
 -- Three values.
 pub mod ValueLaws
 pub mod Fitting

@@ -10,7 +10,7 @@ use lib.ListN.{replicate}
 use Rattle.rules.specs.Terms.{var, app, nil, cons}
 use Rattle.rules.specs.Syntax.{Goal}
 use Rattle.rules.specs.Evaluation.{finished, budget, answers, store}
-use Rattle.rules.specs.Refusals.{badHeader, badSymbol, badStarts, longClause, badClause, longQuery, badQuery, badStore, badScratch, refused, accepted, andThen, require, obtain, checkedNumber}
+use Rattle.rules.specs.Refusals.{badHeader, badSymbol, badStarts, longClause, badClause, longQuery, badQuery, badStore, badScratch, looseClause, looseQuery, refused, accepted, andThen, require, obtain, checkedNumber}
 use Rattle.rules.specs.Decks.{openDeck}
 use Rattle.rules.specs.Run.{run}
 use Rattle.rules.specs.Listing.{listing}
@@ -18,7 +18,7 @@ use Rattle.rules.specs.Program.{wordsFrom, even, deckFile, queryInput, p
 use Rattle.rules.specs.All.{rules}
 use Rattle.rules.proofs.Cases.{case, shows, outcomeOf}
 use Rattle.rules.proofs.Table.{deckL, bytesL}
-use Rattle.rules.proofs.MoreRuns.{nested, deckE}
+use Rattle.rules.proofs.MoreRuns.{nested, deckP, deckE}
 use Rattle.rules.proofs.SearchRuns.{deckM}
 use Rattle.rules.proofs.StoreRuns.{small}
 
@@ -29,27 +29,27 @@ text (string._∷_ c s) = code c ∷ text s
 
 -- 1. THE LISTING.
 
--- L, 3 1 and L, 16387 32768, through the program: `no` and `open` exchanged, `no` with a goal parked.
+-- L, 3 1 through the program, and p if not p: `no` and `open` exchanged, `no` with a goal parked.
 pub says-no : program (some bytesL) (3 ∷ 0 ∷ 1 ∷ 0 ∷ []) ≡ text "no\nfinished 1 0 0 0\n"
 unfolding rules
 says-no = refl
 
-pub says-open : program (some bytesL) (3 ∷ 64 ∷ 0 ∷ 128 ∷ []) ≡ text "open\nfinished 1 0 0 1\n"
+pub says-open : listing (outcomeOf (case deckP (0 ∷ []) 99 (shows finished 66 0 0 []))) ≡ text "open\nfinished 66 0 0 1\n"
 unfolding rules
 says-open = refl
 
--- p if not r(y); p: `all` with a goal parked, and the line of an answer without terms.
+-- p if not c; p; c if not c: `all` with a goal parked, and the line of an answer without terms.
 -- The ends of deck L with budget 2, with room for one answer, and with budget 3: `all` with a spent budget or a full answer list; the stops' words.
 -- A goal whose children do not fit: `no` with a full store.
 pub verdicts :
     map (λ c. listing (outcomeOf c))
-    (case deckM (0 ∷ []) 9 (shows finished 3 1 0 [])
+    (case deckM (0 ∷ []) 99 (shows finished 67 1 0 [])
     ∷ small deckL (2 ∷ 32768 ∷ []) 2 9 (shows budget 2 1 1 [])
     ∷ small deckL (2 ∷ 32768 ∷ []) 9 5 (shows answers 2 1 1 [])
     ∷ small deckL (2 ∷ 32768 ∷ []) 3 6 (shows finished 3 2 0 [])
     ∷ small deckE (2 ∷ 32768 ∷ 3 ∷ nested 400) 9 9 (shows store 0 0 1 [])
     ∷ [])
-    ≡ text "open\nfinished 3 1 0 1\ntrue\n"
+    ≡ text "open\nfinished 67 1 0 1\ntrue\n"
     ∷ text "open\nbudget 2 1 1 0\ns0\n"
     ∷ text "open\nanswers 2 1 1 0\ns0\n"
     ∷ text "all\nfinished 3 2 0 0\ns0\ns1\n"
@@ -76,9 +76,9 @@ all-marks = refl
 
 -- The numbers of the refusals.
 pub refusals :
-    map (λ n. listing (refused n)) (badHeader ∷ badSymbol ∷ badStarts ∷ longClause ∷ badClause ∷ longQuery ∷ badQuery ∷ badStore ∷ badScratch ∷ [])
+    map (λ n. listing (refused n)) (badHeader ∷ badSymbol ∷ badStarts ∷ longClause ∷ badClause ∷ longQuery ∷ badQuery ∷ badStore ∷ badScratch ∷ looseClause ∷ looseQuery ∷ [])
     ≡ text "refused 1\n" ∷ text "refused 2\n" ∷ text "refused 3\n" ∷ text "refused 4\n" ∷ text "refused 5\n" ∷ text "refused 6\n" ∷ text "refused 7\n"
-    ∷ text "refused 8\n" ∷ text "refused 9\n" ∷ []
+    ∷ text "refused 8\n" ∷ text "refused 9\n" ∷ text "refused 13\n" ∷ text "refused 14\n" ∷ []
 unfolding rules
 refusals = refl
 
@@ -97,8 +97,15 @@ pub byte-counts :
 unfolding rules
 byte-counts = refl
 
+-- The bytes of the q(x, f(x)) deck.
+abbrev pub bytesQ : List ℕ
+bytesQ =
+    1 ∷ 0 ∷ 2 ∷ 0 ∷ 8 ∷ 0 ∷ 1 ∷ 0 ∷ 10 ∷ 0 ∷ 4 ∷ 0 ∷ 11 ∷ 0 ∷ 15 ∷ 0
+    ∷ 1 ∷ 0 ∷ 2 ∷ 1 ∷ 0 ∷ 0 ∷ 1 ∷ 0 ∷ 0 ∷ 128 ∷ 0 ∷ 0 ∷ 0 ∷ 128 ∷ []
+
 -- No deck and an odd query; an odd deck and a long query; a deck of one word and a long query; a bad symbol word and an odd query: the query looked
 -- at before the deck. Deck L and a long odd query, an odd one, one that is not literals.
+-- Loose variables: a deck q(x, f(x)) and a query that is not literals; the same and one that has a loose variable too; deck L and that: 7 before 13, 13 before 14.
 pub program-order :
     program none (3 ∷ [])
     ∷ program (some (bytesL ++ (0 ∷ []))) (replicate 1001 0)
@@ -107,8 +114,12 @@ pub program-order :
     ∷ program (some bytesL) (replicate 1001 0)
     ∷ program (some bytesL) (3 ∷ [])
     ∷ program (some bytesL) (0 ∷ 0 ∷ [])
+    ∷ program (some bytesQ) (0 ∷ 0 ∷ [])
+    ∷ program (some bytesQ) (1 ∷ 64 ∷ 0 ∷ 128 ∷ 0 ∷ 128 ∷ [])
+    ∷ program (some bytesL) (3 ∷ 64 ∷ 0 ∷ 128 ∷ [])
     ∷ []
-    ≡ text "refused 1\n" ∷ text "refused 1\n" ∷ text "refused 1\n" ∷ text "refused 2\n" ∷ text "refused 6\n" ∷ text "refused 7\n" ∷ text "refused 7\n" ∷ []
+    ≡ text "refused 1\n" ∷ text "refused 1\n" ∷ text "refused 1\n" ∷ text "refused 2\n" ∷ text "refused 6\n" ∷ text "refused 7\n" ∷ text "refused 7\n"
+    ∷ text "refused 7\n" ∷ text "refused 13\n" ∷ text "refused 14\n" ∷ []
 unfolding rules
 program-order = refl
 

@@ -2,7 +2,8 @@
 use Prim.Native.Nat.{ℕ, zero, suc}
 use mathlib.Core.Path.{_≡_, refl}
 use mathlib.Core.List.{List, [], _∷_, map}
-use Rattle.rules.specs.Goals.{floundered, undecided, oversized}
+use Rattle.rules.specs.Refusals.{looseClause, refused}
+use Rattle.rules.specs.Goals.{undecided, oversized}
 use Rattle.rules.specs.Evaluation.{finished, budget, answers, store}
 use Rattle.rules.specs.Run.{answersAfter, storeStart}
 use Rattle.rules.specs.All.{rules}
@@ -22,37 +23,45 @@ deckP =
     ∷ 0
     ∷ 0 ∷ 16384 ∷ []
 
--- Clause r(f(x)). Symbols: f, r.
+-- Clauses r(f(x)) if e(x); e(a). Symbols: f, r, e, a.
 abbrev pub deckR : List ℕ
 deckR =
-    1 ∷ 2 ∷ 8 ∷ 1 ∷ 10 ∷ 3 ∷ 11 ∷ 14
-    ∷ 1 ∷ 257
-    ∷ 0
-    ∷ 1 ∷ 0 ∷ 32768 ∷ []
+    1 ∷ 4 ∷ 8 ∷ 2 ∷ 12 ∷ 7 ∷ 14 ∷ 21
+    ∷ 1 ∷ 257 ∷ 257 ∷ 0
+    ∷ 0 ∷ 5
+    ∷ 1 ∷ 0 ∷ 32768 ∷ 2 ∷ 32768 ∷ 2 ∷ 3 ∷ []
 
--- Clauses p(x) if q(x, .., x), twelve times x; p(x). Symbols: a, f, p, q.
+-- Clauses q(x, f(x)) if e(x); e(a). Symbols: f, q, e, a.
+abbrev pub deckS : List ℕ
+deckS =
+    1 ∷ 4 ∷ 8 ∷ 2 ∷ 12 ∷ 8 ∷ 14 ∷ 22
+    ∷ 1 ∷ 258 ∷ 257 ∷ 0
+    ∷ 0 ∷ 6
+    ∷ 1 ∷ 32768 ∷ 0 ∷ 32768 ∷ 2 ∷ 32768 ∷ 2 ∷ 3 ∷ []
+
+-- Clauses p(x) if q(x, .., x), twelve times x; p(f(..)), a hundred times f. Symbols: a, f, p, q.
 abbrev pub deckO : List ℕ
 deckO =
-    1 ∷ 4 ∷ 8 ∷ 2 ∷ 12 ∷ 17 ∷ 14 ∷ 31
+    1 ∷ 4 ∷ 8 ∷ 2 ∷ 12 ∷ 117 ∷ 14 ∷ 131
     ∷ 0 ∷ 1 ∷ 257 ∷ 268
     ∷ 0 ∷ 15
-    ∷ 2 ∷ 32768 ∷ 3 ∷ 32768 ∷ 32768 ∷ 32768 ∷ 32768 ∷ 32768 ∷ 32768 ∷ 32768 ∷ 32768 ∷ 32768 ∷ 32768 ∷ 32768 ∷ 32768 ∷ 2 ∷ 32768 ∷ []
+    ∷ 2 ∷ 32768 ∷ 3 ∷ 32768 ∷ 32768 ∷ 32768 ∷ 32768 ∷ 32768 ∷ 32768 ∷ 32768 ∷ 32768 ∷ 32768 ∷ 32768 ∷ 32768 ∷ 32768 ∷ 2 ∷ nested 100
 
--- Clauses e(a), three times; p(x), twice; h(x) if e(y) and g(x). Symbols: a, f, e, g, p, h.
+-- Clauses e(a), three times; p(a), twice; h(x) if e(y) and g(x). Symbols: a, f, e, g, p, h.
 abbrev pub deckE : List ℕ
 deckE =
     1 ∷ 6 ∷ 8 ∷ 6 ∷ 14 ∷ 16 ∷ 20 ∷ 36
     ∷ 0 ∷ 1 ∷ 257 ∷ 257 ∷ 257 ∷ 257
     ∷ 0 ∷ 2 ∷ 4 ∷ 6 ∷ 8 ∷ 10
-    ∷ 2 ∷ 0 ∷ 2 ∷ 0 ∷ 2 ∷ 0 ∷ 4 ∷ 32768 ∷ 4 ∷ 32768 ∷ 5 ∷ 32768 ∷ 2 ∷ 32769 ∷ 3 ∷ 32768 ∷ []
+    ∷ 2 ∷ 0 ∷ 2 ∷ 0 ∷ 2 ∷ 0 ∷ 4 ∷ 0 ∷ 4 ∷ 0 ∷ 5 ∷ 32768 ∷ 2 ∷ 32769 ∷ 3 ∷ 32768 ∷ []
 
--- Clauses p(x) if not r(y); p(x) if s(a); s(a), twice. Symbols: a, f, p, r, s, g.
+-- Clauses p(x) if r(x); p(x) if s(x); r(x) if q(x, x, x, x); s(x) if m(x), twice. Symbols: a, f, p, r, s, q, m.
 abbrev pub deckK : List ℕ
 deckK =
-    1 ∷ 6 ∷ 8 ∷ 4 ∷ 14 ∷ 12 ∷ 18 ∷ 30
-    ∷ 0 ∷ 1 ∷ 257 ∷ 257 ∷ 257 ∷ 258
-    ∷ 0 ∷ 4 ∷ 8 ∷ 10
-    ∷ 2 ∷ 32768 ∷ 16387 ∷ 32769 ∷ 2 ∷ 32768 ∷ 4 ∷ 0 ∷ 4 ∷ 0 ∷ 4 ∷ 0 ∷ []
+    1 ∷ 7 ∷ 8 ∷ 5 ∷ 15 ∷ 23 ∷ 20 ∷ 43
+    ∷ 0 ∷ 1 ∷ 257 ∷ 257 ∷ 257 ∷ 260 ∷ 257
+    ∷ 0 ∷ 4 ∷ 8 ∷ 15 ∷ 19
+    ∷ 2 ∷ 32768 ∷ 3 ∷ 32768 ∷ 2 ∷ 32768 ∷ 4 ∷ 32768 ∷ 3 ∷ 32768 ∷ 5 ∷ 32768 ∷ 32768 ∷ 32768 ∷ 32768 ∷ 4 ∷ 32768 ∷ 6 ∷ 32768 ∷ 4 ∷ 32768 ∷ 6 ∷ 32768 ∷ []
 
 -- Clauses a if not b; b if not c; c. Symbols: a, b, c.
 abbrev pub deckN : List ℕ
@@ -62,7 +71,7 @@ deckN =
     ∷ 0 ∷ 2 ∷ 4
     ∷ 0 ∷ 16385 ∷ 1 ∷ 16386 ∷ 2 ∷ []
 
--- Clark's P(x) if Q(y) and R(y); Q(h(y)) if Q(y); R(g(y)). Symbols: a, h, g, P, Q, R.
+-- Clark's P(x) if Q(y) and R(y); Q(h(y)) if Q(y); R(g(y)), with the loose variables x and y. Symbols: a, h, g, P, Q, R.
 abbrev pub deckC : List ℕ
 deckC =
     1 ∷ 6 ∷ 8 ∷ 3 ∷ 14 ∷ 14 ∷ 17 ∷ 31
@@ -70,29 +79,41 @@ deckC =
     ∷ 0 ∷ 6 ∷ 11
     ∷ 3 ∷ 32768 ∷ 4 ∷ 32769 ∷ 5 ∷ 32769 ∷ 4 ∷ 1 ∷ 32768 ∷ 4 ∷ 32768 ∷ 5 ∷ 2 ∷ 32768 ∷ []
 
+-- The same without loose variables: P(a) if Q(y) and R(y); Q(h(y)) if Q(y); R(g(y)) if R(y).
+abbrev pub deckD : List ℕ
+deckD =
+    1 ∷ 6 ∷ 8 ∷ 3 ∷ 14 ∷ 16 ∷ 17 ∷ 33
+    ∷ 0 ∷ 1 ∷ 1 ∷ 257 ∷ 257 ∷ 257
+    ∷ 0 ∷ 6 ∷ 11
+    ∷ 3 ∷ 0 ∷ 4 ∷ 32768 ∷ 5 ∷ 32768 ∷ 4 ∷ 1 ∷ 32768 ∷ 4 ∷ 32768 ∷ 5 ∷ 2 ∷ 32768 ∷ 5 ∷ 32768 ∷ []
+
 -- p if not p: level 32 parks with mark 4, and each level above it with mark 2.
--- r(y) has the answer f(x): the clause's variable is another than the query's.
+-- r(y) has the answer f(a): the clause's variable is another than the query's.
+-- q(y, y) over q(x, f(x)) if e(x): no x is f(x).
 -- p(f(..)) with a child over 1,024 words and a sister that would be an answer: the goal itself is parked.
 -- Two ends and room for one: stop "answers".
 -- Three children of 405 words and a store of 1,024: stop "store".
--- A parked goal of 348 words, and children of 692 words together: only the parked words make it too much.
+-- A parked goal of 344 words, and children of 688 words together: only the parked words make it too much.
 -- Two pending goals of 483 words, and a new level's goal of 483 words.
 -- not h(f(..)): the new level stops with "store" in its second step, and the goal is still pending.
 -- a if not b, b if not c, c: finished in 7 steps; a budget of 5 ends on the second level below.
 -- Clark's P(a): with the oldest literal first it fails in three steps. (The budget is small, so that a wrong order shows soon.)
+-- Clark's own deck: refused, for its loose variables.
 abbrev pub more : List Case
 more =
     case deckP (0 ∷ []) 100000 (shows finished 66 0 0 (undecided ∷ []))
-    ∷ case deckR (1 ∷ 32768 ∷ []) 100000 (shows finished 2 1 0 [])
+    ∷ case deckR (1 ∷ 32768 ∷ []) 100000 (shows finished 3 1 0 [])
+    ∷ case deckS (1 ∷ 32768 ∷ 32768 ∷ []) 100000 (shows finished 1 0 0 [])
     ∷ case deckO (2 ∷ nested 100) 100000 (shows finished 1 0 0 (oversized ∷ []))
     ∷ record { deck = deckL; query = 2 ∷ 32768 ∷ []; budget = 9; answerRoom = 3; storeSize = 1024; expected = shows answers 2 1 1 [] }
     ∷ record { deck = deckE; query = 2 ∷ 32768 ∷ 3 ∷ nested 400; budget = 9; answerRoom = 3; storeSize = 1024; expected = shows store 0 0 1 [] }
-    ∷ record { deck = deckK; query = 2 ∷ 0 ∷ 16389 ∷ 32768 ∷ nested 340; budget = 9; answerRoom = 0; storeSize = 1024; expected = shows store 2 0 1 (floundered ∷ []) }
+    ∷ record { deck = deckK; query = 2 ∷ nested 340; budget = 9; answerRoom = 0; storeSize = 1024; expected = shows store 2 0 1 (oversized ∷ []) }
     ∷ record { deck = deckE; query = 4 ∷ 0 ∷ 16387 ∷ nested 479; budget = 9; answerRoom = 0; storeSize = 1024; expected = shows store 1 0 2 [] }
     ∷ record { deck = deckE; query = 16389 ∷ nested 340; budget = 9; answerRoom = 9; storeSize = 1024; expected = shows store 2 0 1 [] }
     ∷ case deckN (0 ∷ []) 7 (shows finished 7 1 0 [])
     ∷ case deckN (0 ∷ []) 5 (shows budget 5 0 1 [])
-    ∷ case deckC (3 ∷ 0 ∷ []) 100 (shows finished 3 0 0 [])
+    ∷ case deckD (3 ∷ 0 ∷ []) 100 (shows finished 3 0 0 [])
+    ∷ case deckC (3 ∷ 0 ∷ []) 100 (refused looseClause)
     ∷ []
 
 pub more-runs : map actual more ≡ map (λ c. c .expected) more
@@ -109,7 +130,7 @@ pub oversized-goal : wordsOfRun storeStart (outcomeOf (case deckO (2 ∷ nested 
 unfolding rules
 oversized-goal = refl
 
--- The answer f(x) of r(y), with its variable.
-pub fresh-answer : wordsOfRun (λ o. answersAfter o []) (outcomeOf (case deckR (1 ∷ 32768 ∷ []) 9 (shows finished 2 1 0 []))) ≡ 4 ∷ 2 ∷ 0 ∷ 32768 ∷ []
+-- The answer f(a) of r(y).
+pub fresh-answer : wordsOfRun (λ o. answersAfter o []) (outcomeOf (case deckR (1 ∷ 32768 ∷ []) 9 (shows finished 3 1 0 []))) ≡ 4 ∷ 2 ∷ 0 ∷ 3 ∷ []
 unfolding rules
 fresh-answer = refl

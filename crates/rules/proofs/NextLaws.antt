@@ -4,6 +4,7 @@ use mathlib.Core.Path.{_≡_, refl}
 use mathlib.Core.Bool.{Bool, true, false}
 use mathlib.Core.List.{List, [], _∷_, _++_}
 use lib.Dec.{leb}
+use native.Mathlib.Omega.{arith}
 use borrow.Author.Tests.{leb-true, leb-false}
 use Rattle.rules.specs.Terms.{Terms}
 use Rattle.rules.specs.Syntax.{Literal, Clause, Goal}
@@ -20,7 +21,7 @@ either Q false x y h k = k refl
 -- What a step does with a goal, where `below` is the number of levels below.
 pub data Acts (clauses : List Clause) (below : ℕ) (g : Goal) : Act → Type 0 where
   bare : g .literals ≡ [] → Acts clauses below g noLiterals
-  flounders : select (g .literals) ≡ nothing → Acts clauses below g (park floundered)
+  flounders : (g .literals ≡ [] → ⊥) → select (g .literals) ≡ nothing → Acts clauses below g (park floundered)
   overflows : {before after : List Literal} {p : ℕ} {ts : Terms} → select (g .literals) ≡ positive before p ts after
       → anyOversized (resolvents clauses g before p ts after) ≡ true → Acts clauses below g (park oversized)
   resolves : {before after : List Literal} {p : ℕ} {ts : Terms} → select (g .literals) ≡ positive before p ts after
@@ -37,18 +38,18 @@ module _ (clauses : List Clause) (g : Goal) where
   decide-acts zero before p ts after e = bottoms e refl
   decide-acts (suc below) before p ts after e = asks e refl
 
-  selected-acts : (below : ℕ) (s : Selection) → select (g .literals) ≡ s → Acts clauses below g (selectedAct clauses below g s)
+  selected-acts : (below : ℕ) (s : Selection) → (g .literals ≡ [] → ⊥) → select (g .literals) ≡ s → Acts clauses below g (selectedAct clauses below g s)
   unfolding selectedAct deriveAct
-  selected-acts below nothing e = flounders e
-  selected-acts below (positive before p ts after) e =
+  selected-acts below nothing n e = flounders n e
+  selected-acts below (positive before p ts after) n e =
       either (Acts clauses below g) (anyOversized (resolvents clauses g before p ts after)) _ _
       (overflows e) (resolves e)
-  selected-acts below (negative before p ts after) e = decide-acts below before p ts after e
+  selected-acts below (negative before p ts after) n e = decide-acts below before p ts after e
 
   literals-acts : (below : ℕ) (ls : List Literal) → g .literals ≡ ls → Acts clauses below g (literalsAct clauses below g ls)
   unfolding literalsAct
   literals-acts below [] e = bare e
-  literals-acts below (l ∷ ls) e = selected-acts below (select (l ∷ ls)) (rw e)
+  literals-acts below (l ∷ ls) e = selected-acts below (select (l ∷ ls)) (λ z. let i : _≡_ {A = ℕ} 0 1 = cc in omega arith) (rw e)
 
   pub acts : (below : ℕ) → Acts clauses below g (actOf clauses below g)
   unfolding actOf

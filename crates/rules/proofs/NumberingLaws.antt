@@ -288,7 +288,7 @@ in-vars x ts rest = (
 )
 
 -- A variable occurs in terms exactly if it is among their variables.
-sum-pos : (a b : ℕ) → 0 < a + b → (0 < a) ⊎ (0 < b)
+pub sum-pos : (a b : ℕ) → 0 < a + b → (0 < a) ⊎ (0 < b)
 sum-pos zero b h = inr (omega arith)
 sum-pos (suc a) b h = inl (omega arith)
 

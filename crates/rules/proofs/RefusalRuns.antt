@@ -113,8 +113,29 @@ pub sizes :
 unfolding rules
 sizes = refl
 
+-- 13 and 14. With the empty query, clauses without a loose variable: q; p(x) if p(x); p(f(x)) if p(x); p(x) if not p(x) and p(f(x)).
+-- And with one: p(x); p(f(x)) if q; p(x) if not p(x); p(x) if p(y); q if not p(x); the same after another clause; in the last place of a body.
+abbrev pub bound : List ℕ → List ℕ → ℕ
+bound ss cells = checkedNumber (checkQuery (deckOf symbols ss cells) [])
+
+pub loose-clauses :
+    map (bound (0 ∷ []))
+    ((3 ∷ []) ∷ (2 ∷ 32768 ∷ 2 ∷ 32768 ∷ []) ∷ (2 ∷ 1 ∷ 32768 ∷ 2 ∷ 32768 ∷ []) ∷ (2 ∷ 32768 ∷ 16386 ∷ 32768 ∷ 2 ∷ 1 ∷ 32768 ∷ [])
+    ∷ (2 ∷ 32768 ∷ []) ∷ (2 ∷ 1 ∷ 32768 ∷ 3 ∷ []) ∷ (2 ∷ 32768 ∷ 16386 ∷ 32768 ∷ []) ∷ (2 ∷ 32768 ∷ 2 ∷ 32769 ∷ []) ∷ (3 ∷ 16386 ∷ 32768 ∷ []) ∷ [])
+    ++ (bound (0 ∷ 1 ∷ []) (3 ∷ 3 ∷ 16386 ∷ 32768 ∷ []) ∷ bound (0 ∷ []) (2 ∷ 32768 ∷ 2 ∷ 32768 ∷ 16386 ∷ 32769 ∷ []) ∷ [])
+    ≡ 0 ∷ 0 ∷ 0 ∷ 0 ∷ 13 ∷ 13 ∷ 13 ∷ 13 ∷ 13 ∷ 13 ∷ 13 ∷ []
+unfolding rules
+loose-clauses = refl
+
+-- Queries p(x); not p(x) and p(f(x)); not p(x); p(x) and not p(y).
+pub loose-queries :
+    map asks ((2 ∷ 32768 ∷ []) ∷ (16386 ∷ 32768 ∷ 2 ∷ 1 ∷ 32768 ∷ []) ∷ (16386 ∷ 32768 ∷ []) ∷ (2 ∷ 32768 ∷ 16386 ∷ 32769 ∷ []) ∷ [])
+    ≡ 0 ∷ 0 ∷ 14 ∷ 14 ∷ []
+unfolding rules
+loose-queries = refl
+
 -- Two faults at once: 1 and 2, 2 and 3, 3 and 4; 4 and 5, the later clause too long and the earlier one misnumbered, and the other way round;
--- 5 and 6, 6 and 7, 7 and 8, 8 and 9.
+-- 5 and 6, 6 and 7, 7 and 8, 8 and 9, 9 and 13, 9 and 14, 13 and 14.
 pub lower-number :
     opens (set (set deckL 0 2) 8 16)
     ∷ opens (set (set deckL 8 16) 13 1)
@@ -125,7 +146,10 @@ pub lower-number :
     ∷ asks (replicate 501 0)
     ∷ checkedNumber (run deckL (0 ∷ []) 0 0 0 8192)
     ∷ lends 0 0
+    ∷ checkedNumber (run (deckOf symbols (0 ∷ []) (2 ∷ 32768 ∷ [])) [] 0 0 1024 0)
+    ∷ checkedNumber (run deckL (16387 ∷ 32768 ∷ []) 0 0 1024 0)
+    ∷ checkedNumber (run (deckOf symbols (0 ∷ []) (2 ∷ 32768 ∷ [])) (16386 ∷ 32768 ∷ []) 0 0 1024 8192)
     ∷ []
-    ≡ 1 ∷ 2 ∷ 3 ∷ 4 ∷ 4 ∷ 5 ∷ 6 ∷ 7 ∷ 8 ∷ []
+    ≡ 1 ∷ 2 ∷ 3 ∷ 4 ∷ 4 ∷ 5 ∷ 6 ∷ 7 ∷ 8 ∷ 9 ∷ 9 ∷ 13 ∷ []
 unfolding rules
 lower-number = refl

@@ -3,9 +3,9 @@ use Prim.Native.Nat.{ℕ}
 use mathlib.Core.Path.{_≡_, refl}
 use mathlib.Core.List.{List, [], _∷_, map}
 use mathlib.Core.Option.{some}
-use Rattle.rules.specs.Goals.{floundered}
+use Rattle.rules.specs.Refusals.{looseClause, looseQuery, refused}
 use Rattle.rules.specs.Evaluation.{finished, budget}
-use Rattle.rules.specs.Run.{answersAfter, storeStart}
+use Rattle.rules.specs.Run.{answersAfter}
 use Rattle.rules.specs.Program.{program}
 use Rattle.rules.specs.All.{rules}
 use Rattle.rules.proofs.Cases.{Case, case, shows, actual, outcomeOf, wordsOfRun}
@@ -18,36 +18,32 @@ deckL =
     ∷ 0 ∷ 2 ∷ 4 ∷ 6
     ∷ 2 ∷ 0 ∷ 2 ∷ 1 ∷ 3 ∷ 0 ∷ 4 ∷ 32768 ∷ 2 ∷ 32768 ∷ 16387 ∷ 32768 ∷ []
 
--- Clause q(x, f(x)). Symbols: f, q.
+-- Clause q(x, f(x)), whose variable is loose. Symbols: f, q.
 abbrev pub deckQ : List ℕ
 deckQ = 1 ∷ 2 ∷ 8 ∷ 1 ∷ 10 ∷ 4 ∷ 11 ∷ 15 ∷ 1 ∷ 258 ∷ 0 ∷ 1 ∷ 32768 ∷ 0 ∷ 32768 ∷ []
 
--- THE STARRED RUNS.
+-- THE STARRED RUNS, after document 02: the floundering query is refused with 14 and the q(x, f(x)) deck with 13 (U5).
 abbrev pub starred : List Case
 starred =
     case deckL (4 ∷ 32768 ∷ []) 8 (shows finished 8 1 0 [])
     ∷ case deckL (4 ∷ 32768 ∷ []) 7 (shows budget 7 0 1 [])
     ∷ case deckL (4 ∷ 32768 ∷ []) 4 (shows budget 4 0 2 [])
     ∷ case deckL (4 ∷ 32768 ∷ []) 0 (shows budget 0 0 1 [])
-    ∷ case deckL (16387 ∷ 32768 ∷ []) 100000 (shows finished 1 0 0 (floundered ∷ []))
+    ∷ case deckL (16387 ∷ 32768 ∷ []) 100000 (refused looseQuery)
     ∷ case deckL [] 100000 (shows finished 1 1 0 [])
     ∷ case deckL (3 ∷ 1 ∷ []) 100000 (shows finished 1 0 0 [])
     ∷ case deckL (3 ∷ 0 ∷ []) 100000 (shows finished 2 1 0 [])
-    ∷ case deckQ (1 ∷ 32768 ∷ 32768 ∷ []) 100000 (shows finished 1 0 0 [])
+    ∷ case deckQ (1 ∷ 32768 ∷ 32768 ∷ []) 100000 (refused looseClause)
     ∷ []
 
 pub starred-runs : map actual starred ≡ map (λ c. c .expected) starred
 unfolding rules
 starred-runs = refl
 
--- The words that query 4 32768 with budget 8 leaves in an answer list of five words, and those that the floundering query leaves in the store.
+-- The words that query 4 32768 with budget 8 leaves in an answer list of five words.
 pub answer-words : wordsOfRun (λ o. answersAfter o (7 ∷ 7 ∷ 7 ∷ 7 ∷ 7 ∷ [])) (outcomeOf (case deckL (4 ∷ 32768 ∷ []) 8 (shows finished 8 1 0 []))) ≡ 3 ∷ 1 ∷ 1 ∷ 7 ∷ 7 ∷ []
 unfolding rules
 answer-words = refl
-
-pub store-words : wordsOfRun storeStart (outcomeOf (case deckL (16387 ∷ 32768 ∷ []) 8 (shows finished 1 0 0 (floundered ∷ [])))) ≡ 4101 ∷ 1 ∷ 32768 ∷ 16387 ∷ 32768 ∷ []
-unfolding rules
-store-words = refl
 
 -- A word's bytes, the low one first.
 abbrev pub bytesL : List ℕ

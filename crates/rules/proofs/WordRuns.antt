@@ -41,14 +41,14 @@ abbrev pub wanted : Row → Shown
 wanted r = both (r .run .expected) (r .left)
 
 -- Budget 8: the answer b. Budget 7: b, not yet listed. Budget 4: both goals, each with its "not". Budget 0: the first goal.
--- Then the floundered goal, the empty query's answer, nothing, the answer of a query without variables, nothing.
+-- Then nothing, the empty query's answer, nothing, the answer of a query without variables, nothing.
 pub starred-words :
     map leaves starred
     ≡ words (3 ∷ 1 ∷ 1 ∷ []) []
     ∷ words [] (3 ∷ 1 ∷ 1 ∷ [])
     ∷ words [] (5 ∷ 1 ∷ 0 ∷ 16387 ∷ 0 ∷ 5 ∷ 1 ∷ 1 ∷ 16387 ∷ 1 ∷ [])
     ∷ words [] (5 ∷ 1 ∷ 32768 ∷ 4 ∷ 32768 ∷ [])
-    ∷ words [] (4101 ∷ 1 ∷ 32768 ∷ 16387 ∷ 32768 ∷ [])
+    ∷ words [] []
     ∷ words (2 ∷ 0 ∷ []) []
     ∷ words [] []
     ∷ words (2 ∷ 0 ∷ []) []
@@ -57,20 +57,22 @@ pub starred-words :
 unfolding rules
 starred-words = refl
 
--- In the order of `more`: the undecided goal, with mark 2; f(x); the goal itself with mark 3; the answer that fitted and the goal that did not;
--- the goals as they were before the step that did not fit, and the floundered one after the pending one; the goals as they were before their "not".
+-- In the order of `more`: the undecided goal, with mark 2; f(a); nothing; the goal itself with mark 3; the answer that fitted and the goal that did not;
+-- the goals as they were before the step that did not fit, and the oversized one after the pending one; the goals as they were before their "not".
 pub more-words :
     map leaves more
     ≡ words [] (8195 ∷ 0 ∷ 16384 ∷ [])
-    ∷ words (4 ∷ 2 ∷ 0 ∷ 32768 ∷ []) []
+    ∷ words (4 ∷ 2 ∷ 0 ∷ 3 ∷ []) []
+    ∷ words [] []
     ∷ words [] (12392 ∷ 0 ∷ 2 ∷ nested 100)
     ∷ words (3 ∷ 1 ∷ 0 ∷ []) (3 ∷ 1 ∷ 1 ∷ [])
     ∷ words [] (407 ∷ 1 ∷ 32768 ∷ 2 ∷ 32768 ∷ 3 ∷ nested 400)
-    ∷ words [] ((348 ∷ 1 ∷ 32768 ∷ 16389 ∷ 32768 ∷ (nested 340 ++ (4 ∷ 0 ∷ []))) ++ (4444 ∷ 1 ∷ 32768 ∷ 16389 ∷ 32768 ∷ (nested 340 ++ (16387 ∷ 32769 ∷ []))))
+    ∷ words [] ((344 ∷ 0 ∷ 4 ∷ nested 340) ++ (12632 ∷ 0 ∷ 3 ∷ nested 340))
     ∷ words [] ((483 ∷ 0 ∷ 16387 ∷ nested 479) ++ (483 ∷ 0 ∷ 16387 ∷ nested 479))
     ∷ words [] (344 ∷ 0 ∷ 16389 ∷ nested 340)
     ∷ words (2 ∷ 0 ∷ []) []
     ∷ words [] (3 ∷ 0 ∷ 16385 ∷ [])
+    ∷ words [] []
     ∷ words [] []
     ∷ []
 unfolding rules

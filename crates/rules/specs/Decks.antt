@@ -7,6 +7,7 @@ use lib.ListN.{length, getD, take, drop}
 use lib.Dec.{leb, ltb, eqb}
 use Rattle.rules.specs.Syntax.{Symbol, functor, predicate, Literal, pos, neg, Clause, Deck}
 use Rattle.rules.specs.Cells.{writeTerms, writeLiterals, readLiterals}
+use Rattle.rules.specs.Loose.{checkTightQuery}
 use Rattle.rules.specs.Refusals.{badHeader, badSymbol, badStarts, longClause, badClause, longQuery, badQuery, Checked, accepted, andThen as _>>=_, require, obtain}
 
 -- A symbol word is the arity, 0 to 15, plus 256 for a predicate.
@@ -130,8 +131,10 @@ readQuery deck ws = do
   _ ← require longQuery (leb (length ws) 500)
   obtain badQuery (readLiterals (deck .symbols) ws)
 
--- Opening alone checks 1 to 5, checking a query 1 to 7.
+-- Opening alone checks 1 to 5, checking a query 1 to 7 and then 13 and 14 (U5).
 unfoldable pub checkQuery : List ℕ → List ℕ → Checked (List Literal)
 checkQuery deckWords queryWords = do
   deck ← openDeck deckWords
-  readQuery deck queryWords
+  query ← readQuery deck queryWords
+  _ ← checkTightQuery deck query
+  accepted query

@@ -3,12 +3,14 @@ pub mod Terms
 pub mod Syntax
 pub mod Cells
 pub mod Refusals
+pub mod Loose
 pub mod Decks
 pub mod Goals
 pub mod WellFormed
 pub mod Unification
 pub mod Resolution
 pub mod Evaluation
+pub mod Passes
 pub mod Stored
 pub mod Run
 pub mod Meaning

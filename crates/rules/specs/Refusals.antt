@@ -6,9 +6,9 @@ use mathlib.Core.Option.{Option, none, some}
 -- The deck's writer: header or length; a symbol word; clause starts; a clause over 256 cells; a clause that is not a head and literals, or misnumbered.
 -- The query's writer: over 500 cells; not literals, or misnumbered. The caller: the store's size; the scratch's size.
 -- A text: outside the grammar, or a name undeclared, declared twice or used with another arity; a result that does not fit.
--- Open goals that are not as they must be (U4).
+-- Open goals that are not as they must be (U4). A loose variable: in a clause, in the query (U5).
 pub data Refusal : Type 0 where
-  badHeader badSymbol badStarts longClause badClause longQuery badQuery badStore badScratch badText noRoom badGoals : Refusal
+  badHeader badSymbol badStarts longClause badClause longQuery badQuery badStore badScratch badText noRoom badGoals looseClause looseQuery : Refusal
 
 abbrev pub refusalNumber : Refusal → ℕ
 refusalNumber badHeader = 1
@@ -23,6 +23,8 @@ refusalNumber badScratch = 9
 refusalNumber badText = 10
 refusalNumber noRoom = 11
 refusalNumber badGoals = 12
+refusalNumber looseClause = 13
+refusalNumber looseQuery = 14
 
 -- What checks come to: the first refusal, or what they let through.
 pub data Checked (A : Type 0) : Type 0 where

@@ -10,6 +10,7 @@ use Rattle.rules.specs.Decks.{openDeck, readQuery}
 use Rattle.rules.specs.Syntax.{Deck}
 use Rattle.rules.specs.Goals.{unmarked, writeGoals, firstGoal}
 use Rattle.rules.specs.Stored.{OpenGoals, readOpen}
+use Rattle.rules.specs.Loose.{checkTight, checkTightQuery}
 use Rattle.rules.specs.Evaluation.{Stop, Outcome, evaluate}
 
 -- The sizes of the store and the scratch.
@@ -24,6 +25,7 @@ run deckWords queryWords budget answerRoom storeSize scratchSize = do
   deck ← openDeck deckWords
   query ← readQuery deck queryWords
   _ ← checkSizes storeSize scratchSize
+  _ ← checkTightQuery deck query
   accepted (evaluate deck answerRoom storeSize (firstGoal query ∷ []) [] budget)
 
 -- The deck and the open goals in the store, for a run that carries on (U4): their two counts, and the number of answer terms.
@@ -36,6 +38,7 @@ carry deckWords pending parked terms storeWords scratchSize = do
   deck ← openDeck deckWords
   _ ← checkSizes (length storeWords) scratchSize
   goals ← obtain badGoals (readOpen (deck .symbols) pending parked terms storeWords)
+  _ ← checkTight deck
   accepted (record { deck = deck; goals = goals })
 
 -- A run that carries on: the budget and the lengths of the answer list and the store come after what is carried.

@@ -2,7 +2,8 @@
 
 use second::carry::judge::Engine as Continues;
 use second::carry::{slips, Given};
-use second::judge::{Engine as _, Lent, Report};
+use second::judge::{Engine as Runs, Lent, Report};
+use second::loose::slips as loose;
 use second::text::judge::{Engine, Second};
 use second::text::slips::SLIPS;
 use std::slice::{from_raw_parts, from_raw_parts_mut};
@@ -18,11 +19,17 @@ static CONTINUES: LazyLock<&dyn Continues> = LazyLock::new(|| match slips::SLIPS
     None => &second::judge::Second,
 });
 
+static RUNS: LazyLock<&(dyn Runs + Sync)> = LazyLock::new(|| match loose::SLIPS.iter().find(|slip| named(slip.name)) {
+    Some(slip) => slip,
+    None => &second::judge::Second,
+});
+
 /// The slip of this name is asked for. A name that no slip has is an error.
 fn named(name: &str) -> bool {
     std::env::var("SLIP").is_ok_and(|wanted| {
         let texts = SLIPS.iter().map(|slip| slip.name);
-        let mut all = texts.chain(slips::SLIPS.iter().map(|slip| slip.name));
+        let runs = loose::SLIPS.iter().map(|slip| slip.name);
+        let mut all = texts.chain(slips::SLIPS.iter().map(|slip| slip.name)).chain(runs);
         assert!(all.any(|one| one == wanted), "no slip of this name");
         wanted == name
     })
@@ -32,7 +39,7 @@ fn named(name: &str) -> bool {
 /// As in `include/leads.h`.
 #[no_mangle]
 pub unsafe extern "C" fn leads_open(deck: *const u16, deck_words: usize) -> u32 {
-    second::open(from_raw_parts(deck, deck_words))
+    RUNS.open(from_raw_parts(deck, deck_words))
 }
 
 /// # Safety
@@ -44,7 +51,7 @@ pub unsafe extern "C" fn leads_check(
     query: *const u16,
     query_words: usize,
 ) -> u32 {
-    second::check(from_raw_parts(deck, deck_words), from_raw_parts(query, query_words))
+    RUNS.check(from_raw_parts(deck, deck_words), from_raw_parts(query, query_words))
 }
 
 /// # Safety
@@ -77,7 +84,7 @@ pub unsafe extern "C" fn leads_run(
         scratch: from_raw_parts_mut(scratch, scratch_words),
     };
     let mut report = Report::default();
-    let number = second::judge::Second.run(deck, query, budget, lent, &mut report);
+    let number = RUNS.run(deck, query, budget, lent, &mut report);
     if number == 0 {
         (*stop, *steps, *answer_count) = (report.stop, report.steps, report.answers);
         (*pending, *parked) = (report.pending, report.parked);

@@ -17,6 +17,7 @@ pub fn all() -> Vec<Case> {
     [
         refusals::by_bytes(),
         refusals::by_words(),
+        refusals::loose(),
         answers::deck_l(),
         answers::terms(),
         answers::several(),

@@ -1,4 +1,4 @@
-//! Whether a text is a listing or a refusal, by its form alone.
+//! Whether a text is a listing or a refusal of the program, by its form alone.
 
 pub fn is_output(text: &[u8]) -> bool {
     let Ok(text) = std::str::from_utf8(text) else {
@@ -11,7 +11,7 @@ pub fn is_output(text: &[u8]) -> bool {
 }
 
 fn is_refusal(text: &str) -> bool {
-    (1..=7).any(|number| text == format!("refused {number}"))
+    (1..=7).chain([13, 14]).any(|number| text == format!("refused {number}"))
 }
 
 fn is_listing(text: &str) -> bool {
@@ -50,16 +50,15 @@ fn is_term(text: &str) -> bool {
     term(&mut rest) && rest.is_empty()
 }
 
-/// Takes a term from the front.
+/// Takes a term from the front. No answer of a query has a variable.
 fn term(rest: &mut &str) -> bool {
-    let functor = rest.starts_with('s');
-    let Some(text) = rest.strip_prefix(['s', 'v']) else {
+    let Some(text) = rest.strip_prefix('s') else {
         return false;
     };
     let digits = text.len() - text.trim_start_matches(|byte: char| byte.is_ascii_digit()).len();
     let (digits, text) = text.split_at(digits);
     *rest = text;
-    number(digits).is_some() && (!functor || !rest.starts_with('(') || arguments(rest))
+    number(digits).is_some() && (!rest.starts_with('(') || arguments(rest))
 }
 
 /// Takes arguments in brackets from the front.

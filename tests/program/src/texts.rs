@@ -47,6 +47,9 @@ fn writing(name: &'static str, file: &[u8], start: &'static [u8]) -> TextCase {
 /// The rules of leads, with names.
 const LEADS: &[u8] = b"pr end/1.\npr drawn/1.\nfn a/0.\npr lead/1.\nlead(_0) :- end(_0), ~drawn(_0).\n";
 
+/// Taken as text, for mending; a query of it is refused.
+const LOOSE: &[u8] = b"fn f/1.pr p/1.pr q/2.pr r/0.\np(f(_0)).\nr :- ~q(_0, f(_1)).\np(_0) :- q(_0, _0), ~p(_1).\n";
+
 /// Texts in the grammar with names well used.
 fn read() -> Vec<TextCase> {
     let clause = |cells: usize| format!("pr p/0.p:-p{}.", ",p".repeat(cells - 2)).into_bytes();
@@ -54,6 +57,7 @@ fn read() -> Vec<TextCase> {
         reading("deck L as text", &write(&L, MOST_TEXT_BYTES).expect("a text"), &[1, 0, 5, 0, 8, 0]),
         reading("rules with names", LEADS, &[1, 0, 4, 0, 8, 0]),
         reading("nothing spaced", b"fn f/2.fn c/0.pr p/1.p(f(f(c,_0),c)).", &[1, 0, 3, 0, 8, 0]),
+        reading("a loose variable in each place", LOOSE, &[1, 0, 4, 0, 8, 0]),
         reading("no text", b"", b"refused 1\n"),
         reading("spacing only", b" \n ", b"refused 1\n"),
         reading("a text's clause of 256 cells", &clause(256), &[1, 0, 1, 0, 8, 0, 1, 0, 9, 0, 0, 1]),
@@ -120,6 +124,7 @@ fn written() -> Vec<TextCase> {
     vec![
         writing("deck L", &l, lines),
         writing("nested terms", &bytes(&deck(&[2, 0, 257], &[&[2, 0, 0, 1, Y - 1, 1]])), b"fn s0/2.\n"),
+        writing("a deck with loose variables", &read_program(LOOSE), b"fn s0/1.\n"),
         TextCase { name: "no deck file", asked: Asked::Write(None), start: b"refused 1\n" },
         writing("an empty deck file", b"", b"refused 1\n"),
         writing("a deck of 57 bytes", &l[..57], b"refused 1\n"),

@@ -7,10 +7,12 @@ fn listings_and_refusals() {
     let good = [
         "refused 1\n",
         "refused 7\n",
+        "refused 13\n",
+        "refused 14\n",
         "no\nfinished 1 0 0 0\n",
         "all\nfinished 8 1 0 0\ns1\n",
         "all\nfinished 3 2 0 0\ntrue\ntrue\n",
-        "all\nfinished 100000 1 0 0\nv0 s0(s1,s0(v1,v10)) s100\n",
+        "all\nfinished 100000 1 0 0\ns10 s0(s1,s0(s11,s110)) s100\n",
         "open\nfinished 3 1 0 1\ns0\n",
         "open\nbudget 100000 0 1 0\n",
         "open\nstore 0 0 1 2\n",
@@ -27,6 +29,8 @@ fn other_texts() {
         "\n",
         "refused 0\n",
         "refused 8\n",
+        "refused 12\n",
+        "refused 15\n",
         "refused 1",
         "refused 1\n\n",
         "refused 01\n",
@@ -51,7 +55,8 @@ fn other_texts() {
         "all\nfinished 8 1 0 0\ns1(s0\n",
         "all\nfinished 8 1 0 0\ns1(s0(s0)\n",
         "all\nfinished 8 1 0 0\ns1(s0 s0)\n",
-        "all\nfinished 8 1 0 0\nv0(s0)\n",
+        "all\nfinished 8 1 0 0\nv0\n",
+        "all\nfinished 8 1 0 0\ns1(s0,v0)\n",
         "all\nfinished 8 1 0 0\ntrue s0\n",
     ];
     for text in bad {

@@ -29,6 +29,8 @@ pub enum Refused {
     Before(u32),
     /// 12.
     Goals(Fault),
+    /// 13.
+    Loose,
 }
 
 /// What is wrong with the first goal that is not well formed.
@@ -58,11 +60,12 @@ impl Refused {
         match self {
             Refused::Before(number) => number,
             Refused::Goals(_) => 12,
+            Refused::Loose => 13,
         }
     }
 }
 
-/// The evaluation from the store's goals, or the refusal 1 to 5, 8, 9 or 12.
+/// The evaluation from the store's goals, or the refusal 1 to 5, 8, 9, 12 or 13.
 pub fn carry_on(
     deck: &[u16],
     store: &[u16],
@@ -74,6 +77,7 @@ pub fn carry_on(
     let deck = crate::deck::open(deck).map_err(Refused::Before)?;
     crate::lent(store.len(), scratch_words).map_err(Refused::Before)?;
     let start = stored::read(&deck.symbols, store, given).map_err(Refused::Goals)?;
+    crate::loose::deck(&deck).map_err(|_| Refused::Loose)?;
     let limits = Limits {
         budget,
         answer_words,

@@ -11,6 +11,7 @@ pub mod goals;
 mod guarded;
 pub mod judge;
 pub mod listing;
+pub mod loose;
 pub mod query;
 pub mod random;
 pub mod reader;
@@ -35,15 +36,18 @@ pub fn open(deck: &[u16]) -> u32 {
     deck::open(deck).err().unwrap_or(0)
 }
 
-/// 0, or the refusal 1 to 7.
+/// 0, or the refusal 1 to 7, 13 or 14.
 pub fn check(deck: &[u16], query: &[u16]) -> u32 {
-    deck::open(deck)
-        .and_then(|deck| query::read(&deck, query))
-        .err()
-        .unwrap_or(0)
+    checked(deck, query, loose::both).err().unwrap_or(0)
 }
 
-/// The result of a run, or the refusal 1 to 9.
+fn checked(deck: &[u16], query: &[u16], checks: loose::Checks) -> Result<(), u32> {
+    let deck = deck::open(deck)?;
+    let query = query::read(&deck, query)?;
+    checks(&deck, &query)
+}
+
+/// The result of a run, or the refusal 1 to 9, 13 or 14.
 pub fn run(
     deck: &[u16],
     query: &[u16],
@@ -52,14 +56,25 @@ pub fn run(
     store_words: usize,
     scratch_words: usize,
 ) -> Result<Outcome, u32> {
-    let deck = deck::open(deck)?;
-    let query = query::read(&deck, query)?;
-    lent(store_words, scratch_words)?;
     let limits = Limits {
         budget,
         answer_words,
         store_words,
     };
+    run_checked(deck, query, limits, scratch_words, loose::both)
+}
+
+fn run_checked(
+    deck: &[u16],
+    query: &[u16],
+    limits: Limits,
+    scratch_words: usize,
+    checks: loose::Checks,
+) -> Result<Outcome, u32> {
+    let deck = deck::open(deck)?;
+    let query = query::read(&deck, query)?;
+    lent(limits.store_words, scratch_words)?;
+    checks(&deck, &query)?;
     Ok(evaluation::evaluate(&deck, Start::fresh(query), limits))
 }
 

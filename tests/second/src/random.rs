@@ -10,10 +10,12 @@ mod signature;
 mod sizes;
 mod stress;
 pub mod texts;
+mod tight;
 
 use crate::case::Case;
 use crate::world::World;
 pub use dice::Dice;
+use tight::Ways;
 
 /// A way to make worlds.
 struct Family {
@@ -22,6 +24,8 @@ struct Family {
     weight: usize,
     most_steps: u32,
     make: fn(&mut Dice) -> World,
+    /// How loose variables are dealt with.
+    ways: Ways,
     tune: fn(&mut Dice, &mut Case),
 }
 
@@ -31,7 +35,16 @@ const fn family(name: &'static str, weight: usize, make: fn(&mut Dice) -> World)
         weight,
         most_steps: 3_000,
         make,
+        ways: Ways::Any,
         tune: |_, _| (),
+    }
+}
+
+/// Of the terms and goals that it is made for nothing is taken away.
+const fn exact(name: &'static str, weight: usize, make: fn(&mut Dice) -> World) -> Family {
+    Family {
+        ways: Ways::Literals,
+        ..family(name, weight, make)
     }
 }
 
@@ -42,14 +55,14 @@ const FAMILIES: [Family; 17] = [
     family("numbers", 4, programs::numbers),
     family("flounder", 8, families::flounder),
     family("chain", 8, families::chain),
-    family("parity", 4, families::parity),
-    family("flood", 8, stress::flood),
-    family("brink", 4, stress::brink),
-    family("crowd", 3, stress::crowd),
-    family("nested", 4, stress::nested),
-    family("doubling", 5, stress::doubling),
-    family("twins", 2, stress::twins),
-    family("many", 2, limits::many_variables),
+    exact("parity", 4, families::parity),
+    exact("flood", 8, stress::flood),
+    exact("brink", 4, stress::brink),
+    exact("crowd", 3, stress::crowd),
+    exact("nested", 4, stress::nested),
+    exact("doubling", 5, stress::doubling),
+    exact("twins", 2, stress::twins),
+    exact("many", 2, limits::many_variables),
     family("wide", 3, limits::wide),
     Family {
         most_steps: 20,
@@ -61,15 +74,32 @@ const FAMILIES: [Family; 17] = [
     },
 ];
 
+/// Most worlds are made tight; of some of those, variables are made loose again.
+fn settle(dice: &mut Dice, world: &mut World, ways: Ways) -> &'static str {
+    match dice.weighted(&[2, 9, 49]) {
+        0 => "-asmade",
+        1 => {
+            tight::make_tight(dice, world, ways);
+            tight::loosen(dice, world);
+            "-loose"
+        }
+        _ => {
+            tight::make_tight(dice, world, ways);
+            ""
+        }
+    }
+}
+
 /// The case of a seed; the same for ever.
 pub fn case(seed: u64) -> Case {
     let mut dice = Dice::new(seed);
     let weights: Vec<usize> = FAMILIES.iter().map(|family| family.weight).collect();
     let family = &FAMILIES[dice.weighted(&weights)];
-    let world = (family.make)(&mut dice);
+    let mut world = (family.make)(&mut dice);
+    let settled = settle(&mut dice, &mut world, family.ways);
     let mut case = sizes::sized(&mut dice, &world, family.most_steps);
     (family.tune)(&mut dice, &mut case);
-    case.name = format!("{}-{seed}", family.name);
+    case.name = format!("{}-{seed}{settled}", family.name);
     if dice.chance(1, 5) {
         damage::damage(&mut dice, world, &mut case);
         case.name.push_str("-damaged");

@@ -140,14 +140,37 @@ fn checks_go_in_order() {
         let refused = carry_on(deck, store, given(1, 0, 9), 0, 0, scratch);
         refused.expect_err("a refusal").number()
     };
-    let mut loose = L;
-    loose[28] = 32770;
+    let mut wrong = L;
+    wrong[28] = 32770;
     assert_eq!(number(&L[1..], &[], 0), 1);
-    assert_eq!(number(&loose, &[], 0), 5);
+    assert_eq!(number(&wrong, &[], 0), 5);
     assert_eq!(number(&L, &[0; 1_023], 0), 8);
     assert_eq!(number(&L, &[0; 65_536], 0), 8);
     assert_eq!(number(&L, &[0; 1_024], 8_191), 9);
     assert_eq!(number(&L, &[0; 65_535], 8_192), 12);
+}
+
+/// Request U5: a deck with a loose variable takes no open goals; those of a deck without may have any.
+#[test]
+fn loose_variables() {
+    // Lead of x if x is an end and y is not drawn.
+    let mut loose = L;
+    loose[28] = 32769;
+    let number = |goals: &[&[u16]], numbers, scratch| {
+        let refused = carry_on(&loose, &store(goals), numbers, 9, 9, scratch);
+        refused.expect_err("a refusal").number()
+    };
+    assert_eq!(number(&[&NOT_DRAWN_A], given(1, 0, 1), 8_192), 13);
+    assert_eq!(number(&[], given(0, 0, 0), 8_192), 13);
+    assert_eq!(number(&[&FLOUNDERED], given(0, 1, 1), 8_192), 13);
+    assert_eq!(number(&[&NOT_DRAWN_A], given(1, 0, 2), 8_192), 12);
+    assert_eq!(number(&[&NOT_DRAWN_A], given(1, 0, 1), 8_191), 9);
+    // Of goals filled in by hand a pending one is parked with mark 1, and an answer has a variable.
+    let goals: [&[u16]; 2] = [&[5, 1, 32768, 16387, 32768], &[3, 1, 32768]];
+    let outcome = go(&goals, given(2, 0, 1), 9).expect("a run");
+    assert_eq!(counts(&outcome), (Stop::Finished, 2, 1, 0, 1));
+    assert_eq!(outcome.store_start(), FLOUNDERED);
+    assert_eq!(outcome.answer_list(), [3, 1, 32768]);
 }
 
 /// Unless a step wants more store than there is, a run cut anywhere and continued gives the same answers and ends with the same goals.

@@ -41,6 +41,11 @@ fn expect(deck: &[u16], query: &[u16], budget: u32, text: &str, marks: &[u16]) {
     assert_eq!(line(deck, query, budget), expected, "{query:?} {budget}");
 }
 
+fn refused(deck: &[u16], query: &[u16], number: u32) {
+    let refused = result(&case(deck, query, 100_000));
+    assert_eq!(refused, Expected::Refused(number), "{query:?}");
+}
+
 fn deck(symbols: &[u16], clauses: &[&[u16]]) -> Vec<u16> {
     let world = World {
         symbols: symbols.to_vec(),
@@ -61,7 +66,8 @@ fn leads_by_budget() {
 
 #[test]
 fn other_queries_of_deck_l() {
-    expect(&L, &[16_387, X], 100_000, "finished 1 0 0 1", &[1]);
+    refused(&L, &[16_387, X], 14);
+    expect(&L, &[2, X, 16_387, X], 100_000, "finished 7 1 0 0", &[]);
     expect(&L, &[], 100_000, "finished 1 1 0 0", &[]);
     expect(&L, &[3, 1], 100_000, "finished 1 0 0 0", &[]);
     expect(&L, &[3, 0], 100_000, "finished 2 1 0 0", &[]);
@@ -75,8 +81,12 @@ fn p_if_not_p() {
 
 #[test]
 fn containment() {
-    let deck = deck(&[258, 1], &[&[0, X, 1, X]]);
-    expect(&deck, &[0, X, X], 100_000, "finished 1 0 0 0", &[]);
+    let loose = deck(&[258, 1], &[&[0, X, 1, X]]);
+    refused(&loose, &[0, X, X], 13);
+    // q(x, f(x)) if e(x); e(a).
+    let tight = deck(&[258, 1, 257, 0], &[&[0, X, 1, X, 2, X], &[2, 3]]);
+    expect(&tight, &[0, X, X], 100_000, "finished 1 0 0 0", &[]);
+    expect(&tight, &[0, X, Y], 100_000, "finished 3 1 0 0", &[]);
 }
 
 #[test]
@@ -89,7 +99,8 @@ fn growing_argument() {
 fn clarks_example() {
     let clauses: [&[u16]; 3] = [&[0, X, 1, Y, 2, Y], &[1, 3, X, 1, X], &[2, 4, X]];
     let deck = deck(&[257, 257, 257, 1, 1, 0], &clauses);
-    expect(&deck, &[0, 5], 100_000, "finished 3 0 0 0", &[]);
+    refused(&deck, &[0, 5], 13);
+    refused(&deck, &[], 13);
 }
 
 fn bytes(words: &[u16]) -> Vec<u8> {
@@ -110,9 +121,11 @@ fn worked_listing() {
 fn other_listings() {
     assert_eq!(listed(&L, &[]), "all\nfinished 1 1 0 0\ntrue\n");
     assert_eq!(listed(&L, &[3, 1]), "no\nfinished 1 0 0 0\n");
-    assert_eq!(listed(&L, &[16_387, X]), "open\nfinished 1 0 0 1\n");
-    let deck = deck(&[2, 0, 259], &[&[2, X, 0, 1, 0, Y, X, Y]]);
-    let text = "all\nfinished 2 1 0 0\nv0 s0(s1,s0(v1,v0)) v1\n";
+    assert_eq!(listed(&L, &[16_387, X]), "refused 14\n");
+    let loose = deck(&[2, 0, 259], &[&[2, X, 0, 1, 0, Y, X, Y]]);
+    assert_eq!(listed(&loose, &[2, X, Y, 32_770]), "refused 13\n");
+    let deck = deck(&[2, 0, 259], &[&[2, 1, 0, 1, 0, 1, 1, 1]]);
+    let text = "all\nfinished 2 1 0 0\ns1 s0(s1,s0(s1,s1)) s1\n";
     assert_eq!(listed(&deck, &[2, X, Y, 32_770]), text);
 }
 

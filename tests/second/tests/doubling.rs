@@ -12,15 +12,21 @@ const CONS: u16 = 4;
 const EQUAL: u16 = 5;
 const START: u16 = 6;
 const SHOW: u16 = 7;
+const SOME: u16 = 8;
 
-/// a, b, g of 1, pair and cons of 2; equal(x, x), start if these, show(x).
+/// a, b, g of 1, pair and cons of 2; equal(x, x) if some(x), start if these, show(x) if some(x); some(a).
 fn world(body: Vec<u16>) -> World {
     let mut clause = vec![START];
     clause.extend(body);
     renumber(&mut clause);
     World {
-        symbols: vec![0, 0, 1, 2, 2, 258, 256, 257],
-        clauses: vec![vec![EQUAL, X, X], clause, vec![SHOW, X]],
+        symbols: vec![0, 0, 1, 2, 2, 258, 256, 257, 257],
+        clauses: vec![
+            vec![EQUAL, X, X, SOME, X],
+            clause,
+            vec![SHOW, X, SOME, X],
+            vec![SOME, A],
+        ],
         query: vec![START],
     }
 }
@@ -63,7 +69,9 @@ fn twins(more: [(Vec<u16>, Vec<u16>); 2]) -> Vec<u16> {
 fn twins_agree() {
     let body = twins([(vec![X + 18], vec![A]), (vec![X + 68], vec![A])]);
     let outcome = run(&world(body), 100);
-    assert_eq!((outcome.steps, outcome.answers.len()), (3, 1));
+    // They match, and what is derived is too long.
+    assert_eq!((outcome.steps, outcome.answers.len()), (2, 0));
+    assert_eq!(outcome.parked[0][0] / 4_096, 3);
 }
 
 #[test]
@@ -84,15 +92,16 @@ fn twins_inside_each_other() {
 
 #[test]
 fn sizes_of_a_chain() {
-    // Variable k of a chain of 40 has 2^(41-k) - 1 words: 511 for 32, 1,023 for 31.
-    for (shown, fits) in [(33, true), (32, true), (31, false), (0, false)] {
-        let mut body = equal(&chain(0, 40));
-        body.extend([SHOW, X + shown]);
-        let mut world = world(body);
-        world.clauses.pop();
-        let outcome = run(&world, 2);
-        let oversized = outcome.parked.iter().filter(|goal| goal[0] / 4_096 == 3);
-        assert_eq!(oversized.count(), !fits as usize, "variable {shown}");
+    // Variable k of a chain of n has 2^(n+1-k) - 1 words, and a list of all of them is of 1,024 words with 8.
+    for (length, words) in [(1, 8), (7, 512), (8, 1_024), (9, 0), (40, 0)] {
+        let outcome = run(&world(equal(&chain(0, length))), 2);
+        let derived = outcome.pending.first().map_or(0, Vec::len);
+        assert_eq!(derived, words, "a chain of {length}");
+        assert_eq!(
+            outcome.parked.len(),
+            (words == 0) as usize,
+            "a chain of {length}"
+        );
     }
 }
 

@@ -1,7 +1,7 @@
 //! The generator: the same cases each time, and everything reached.
 
 use second::random::{case, program_case};
-use second::{Outcome, Stop};
+use second::{Case, Outcome, Stop};
 use std::collections::BTreeSet;
 
 #[test]
@@ -21,21 +21,68 @@ fn everything_is_reached() {
             Ok(outcome) => note(&outcome, &mut reached),
         }
     }
-    for number in 1..=9 {
-        assert!(reached.contains(&format!("refused {number}")), "{number}");
-    }
+    let refusals = (1..=9).chain([13, 14]);
+    let mut wanted: BTreeSet<String> = refusals.map(|number| format!("refused {number}")).collect();
     for stop in [Stop::Finished, Stop::Budget, Stop::Answers, Stop::Store] {
-        assert!(reached.contains(&format!("stop {stop:?}")), "{stop:?}");
+        wanted.insert(format!("stop {stop:?}"));
     }
-    for mark in [
-        "1 0", "2 0", "3 0", "1 deeper", "2 deeper", "3 deeper", "4 deeper",
-    ] {
-        assert!(reached.contains(&format!("mark {mark}")), "{mark}");
+    for mark in ["2 0", "3 0", "2 deeper", "3 deeper", "4 deeper"] {
+        wanted.insert(format!("mark {mark}"));
     }
+    for level in [1, 2, 31, 32] {
+        wanted.insert(format!("level {level}"));
+    }
+    // Nothing is parked with mark 1 on any level.
+    assert_eq!(reached, wanted);
+}
+
+/// None of the answers has a variable.
+#[test]
+fn answers_are_without_variables() {
+    let mut answers = 0;
+    for seed in 0..3_000 {
+        let listed = case(seed)
+            .run()
+            .map_or(Vec::new(), |outcome| outcome.answers);
+        for answer in listed {
+            assert!(answer[2..].iter().all(|cell| *cell < 32_768), "seed {seed}");
+            answers += 1;
+        }
+    }
+    assert!(answers > 1_000, "{answers}");
+}
+
+/// Of those that are not damaged most run; of those with variables made loose few do.
+#[test]
+fn most_cases_are_tight() {
+    let whole: Vec<Case> = (0..3_000)
+        .map(case)
+        .filter(|case| !case.name.contains("damaged"))
+        .collect();
+    let ran = |cases: &[&Case]| cases.iter().filter(|case| case.run().is_ok()).count();
+    let (loose, tight): (Vec<&Case>, Vec<&Case>) = whole
+        .iter()
+        .partition(|case| case.name.ends_with("loose") || case.name.ends_with("asmade"));
+    assert_eq!(ran(&tight), tight.len());
+    assert!(
+        10 * tight.len() > 7 * whole.len(),
+        "{} of {}",
+        tight.len(),
+        whole.len()
+    );
+    assert!(
+        loose.len() > 300 && 3 * ran(&loose) < loose.len(),
+        "{} of {}",
+        ran(&loose),
+        loose.len()
+    );
 }
 
 fn note(outcome: &Outcome, reached: &mut BTreeSet<String>) {
     reached.insert(format!("stop {:?}", outcome.stop));
+    if [1, 2, 31, 32].contains(&outcome.watch.deepest) {
+        reached.insert(format!("level {}", outcome.watch.deepest));
+    }
     for mark in 1..5 {
         if outcome.watch.parked[mark] > 0 {
             reached.insert(format!("mark {mark} 0"));

@@ -90,16 +90,18 @@ fn faults_are_found() {
 #[test]
 fn failures_shrink() {
     let engine = Faulty {
-        fault: |_, report, number| {
-            report.parked -= (report.parked > 0) as u32;
+        fault: |lent, report, number| {
+            let undecided =
+                report.pending == 0 && lent.store.first().is_some_and(|word| word / 4_096 == 2);
+            report.parked -= (report.parked > 0 && undecided) as u32;
             number
         },
     };
-    let found = first_failure(&engine).expect("a case with a parked goal");
+    let found = first_failure(&engine).expect("a case with an undecided goal");
     let fails = |case: &Case| judge(&engine, case).is_err();
     let small = shrink(found, &fails);
     assert!(fails(&small));
-    assert!(small.deck.len() <= 16, "{small:?}");
+    assert!(small.deck.len() <= 24, "{small:?}");
     assert!(small.query.len() <= 2, "{small:?}");
     // The longest way to a parked goal in so few words is a circle of "nots", 66 steps.
     assert!(small.budget <= 66, "{small:?}");

@@ -127,7 +127,7 @@ fn queries() {
     assert_eq!(check(&deck, &[0; 500]), 0);
     assert_eq!(check(&deck, &[0; 501]), 6);
     assert_eq!(check(&deck, &[9; 501]), 6);
-    assert_eq!(check(&deck, &[16_385, X, 1, X + 1]), 0);
+    assert_eq!(check(&deck, &[16_385, X, 1, X + 1, 1, X]), 0);
     let bad: [&[u16]; 5] = [&[1], &[2], &[X], &[1, X + 1], &[0, 0, 16_386]];
     for cells in bad {
         assert_eq!(check(&deck, cells), 7, "{cells:?}");
@@ -143,6 +143,96 @@ fn buffers() {
     assert_eq!(refused(1_023, 8_192), Some(8));
     assert_eq!(refused(65_536, 0), Some(8));
     assert_eq!(refused(1_024, 8_191), Some(9));
+}
+
+/// A clause between others, and the query p.
+fn with_clause(cells: &[u16]) -> World {
+    with(|world| world.clauses.insert(1, cells.to_vec()))
+}
+
+#[test]
+fn loose_in_a_clause() {
+    // Symbols: p, q of one argument, a, f of one, r of two.
+    let checked = |cells: &[u16]| {
+        let mut world = with_clause(cells);
+        world.symbols.extend([1, 258]);
+        assert_eq!(open(&world.deck()), 0, "{cells:?}");
+        let ran = run(&world.deck(), &[0], 9, 9, 1_024, 8_192).err();
+        let number = check(&world.deck(), &[0]);
+        assert_eq!(ran, Some(number).filter(|number| *number > 0), "{cells:?}");
+        number
+    };
+    let tight: [&[u16]; 7] = [
+        &[0],
+        &[1, X, 1, X],
+        &[1, X, 1, 3, 3, X],
+        &[1, 3, X, 16_385, X, 1, X],
+        &[0, 16_385, 2],
+        &[4, X, X + 1, 16_388, X + 1, X, 1, X + 1, 1, X],
+        &[0, 4, X, X + 1, 16_388, X + 1, X],
+    ];
+    for cells in tight {
+        assert_eq!(checked(cells), 0, "{cells:?}");
+    }
+    let loose: [&[u16]; 9] = [
+        &[1, X],
+        &[1, 3, X],
+        &[1, X, 0],
+        &[1, X, 16_385, X],
+        &[0, 16_385, X],
+        &[0, 16_385, 3, 3, X],
+        &[4, X, X + 1, 1, X],
+        &[4, X, X + 1, 1, X + 1],
+        &[1, X, 1, X, 16_388, X, X + 1],
+    ];
+    for cells in loose {
+        assert_eq!(checked(cells), 13, "{cells:?}");
+    }
+}
+
+#[test]
+fn loose_in_a_query() {
+    let deck = base().deck();
+    let tight: [&[u16]; 4] = [
+        &[],
+        &[1, X],
+        &[16_385, X, 1, X],
+        &[1, X, 1, X + 1, 16_385, X + 1],
+    ];
+    for query in tight {
+        assert_eq!(check(&deck, query), 0, "{query:?}");
+    }
+    let loose: [&[u16]; 4] = [
+        &[16_385, X],
+        &[1, X, 16_385, X + 1],
+        &[16_385, X, 1, X + 1],
+        &[16_385, X, 16_385, X],
+    ];
+    for query in loose {
+        assert_eq!(check(&deck, query), 14, "{query:?}");
+        assert_eq!(
+            run(&deck, query, 9, 9, 1_024, 8_192).err(),
+            Some(14),
+            "{query:?}"
+        );
+    }
+}
+
+#[test]
+fn loose_after_all_others() {
+    let deck = with_clause(&[1, X]).deck();
+    let refused = |query: &[u16], store, scratch| run(&deck, query, 9, 9, store, scratch).err();
+    assert_eq!(check(&deck, &[9; 501]), 6);
+    assert_eq!(check(&deck, &[1]), 7);
+    assert_eq!(refused(&[1], 1_024, 8_192), Some(7));
+    assert_eq!(refused(&[16_385, X], 1_023, 8_192), Some(8));
+    assert_eq!(refused(&[16_385, X], 1_024, 8_191), Some(9));
+    assert_eq!(refused(&[16_385, X], 1_024, 8_192), Some(13));
+    assert_eq!(refused(&[], 1_024, 8_192), Some(13));
+    assert_eq!(
+        run(&base().deck(), &[16_385, X], 9, 9, 1_024, 8_191).err(),
+        Some(9)
+    );
 }
 
 #[test]

@@ -138,6 +138,7 @@ fn term(dice: &mut Dice, depth: usize, out: &mut Vec<u16>) {
     }
 }
 
+/// And one more for each variable, which holds it.
 fn literals(dice: &mut Dice, more: usize) -> Vec<u16> {
     let mut cells = vec![4];
     for _ in 0..3 {
@@ -148,6 +149,10 @@ fn literals(dice: &mut Dice, more: usize) -> Vec<u16> {
         term(dice, 2, &mut cells);
     }
     renumber(&mut cells);
+    let last = cells.iter().filter(|cell| **cell >= X).max().copied();
+    for variable in last.map_or(X..X, |last| X..last + 1) {
+        cells.extend([5, variable]);
+    }
     cells
 }
 

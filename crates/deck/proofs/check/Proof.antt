@@ -4,8 +4,8 @@ use borrow.Author.Needs.{needs}
 use borrow.Author.Tests.{le-leb, lt-leb, not-true, not-false}
 use Rattle.rules.specs.Cells.{readLiterals}
 use Rattle.rules.specs.Refusals.{checkedNumber}
-use Rattle.rules.specs.Decks.{symbolWords, openDeck, checkQuery}
-use Rattle.deck.specs.Answers.{numberOf, found}
+use Rattle.rules.specs.Decks.{symbolWords, openDeck}
+use Rattle.deck.specs.Answers.{numberOf, found, checkWords}
 use Rattle.deck.specs.Kinds.{symbolsOf}
 use Rattle.deck.proofs.RefusalLaws.{refused-number}
 use Rattle.deck.proofs.OpenLaws.{passes, fails, literalsNumber, refused-query, accepted-header, accepted-query}
@@ -19,7 +19,7 @@ accepted c = sym (c .before .before .«open» .ensures) ∙ ap numberOf (c .enum
 -- The query is not too long.
 after-length :
     (c : tie.Else1) → let a = c .before .before .before .before .before .before .args in
-    checkedNumber (checkQuery (a .deck .now) (a .query .now)) ≡ literalsNumber (a .deck .now) (a .query .now)
+    checkedNumber (checkWords (a .deck .now) (a .query .now)) ≡ literalsNumber (a .deck .now) (a .query .now)
 after-length c = accepted-query _ _ (accepted (c .before)) ∙ passes _ 6 _ (le-leb _ 500 (c .if1 .left))
 
 literals-test :

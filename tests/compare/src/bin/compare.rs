@@ -5,6 +5,7 @@ use second::judge::judge;
 use second::random::case;
 use second::shrink::shrink;
 use second::vectors::{parse, print, result};
+use second::world::World;
 use second::Case;
 use std::time::Instant;
 
@@ -40,34 +41,50 @@ fn vectors() -> usize {
 
 /// The cases that go deepest: nested levels, long chains of variables, doubled terms.
 fn deepest() {
-    let (a, f, g, p, q, e) = (0, 1, 2, 3, 4, 5);
+    let (a, f, g, p, q, e, r, s, t) = (0, 1, 2, 3, 4, 5, 6, 7, 8);
     let (x, y, not) = (32768, 32769, 16384);
-    // p(x) if not q(x, x). q(y, y) if not p(y). e(x, x). e(g(x, y), y). Symbols: a/0 f/1 g/2 p/1 q/2 e/2.
-    let clauses: [&[u16]; 4] = [&[p, x, not + q, x, x], &[q, x, x, not + p, x], &[e, x, x], &[e, g, x, y, y]];
-    let mut deck = vec![1, 6, 8, 4, 14, 18, 18, 36, 0, 1, 2, 257, 258, 258, 0, 5, 10, 13];
-    clauses.iter().for_each(|clause| deck.extend(*clause));
+    // Symbols: a/0 f/1 g/2 p/1 q/2 e/2 r/1 s/1 t/1. p(x) if not q(x, x), t(x). q(y, y) if not p(y), t(y). r(x) if not s(x), t(x).
+    // s(x) if not r(x), t(x). e(x, x) if t(x). e(g(x, y), y) if t(x), t(y). t(a). t(f(x)) if t(x). t(g(x, y)) if t(x), t(y).
+    let world = World {
+        symbols: vec![0, 1, 2, 257, 258, 258, 257, 257, 257],
+        clauses: vec![
+            vec![p, x, not + q, x, x, t, x],
+            vec![q, x, x, not + p, x, t, x],
+            vec![r, x, not + s, x, t, x],
+            vec![s, x, not + r, x, t, x],
+            vec![e, x, x, t, x],
+            vec![e, g, x, y, y, t, x, t, y],
+            vec![t, a],
+            vec![t, f, x, t, x],
+            vec![t, g, x, y, t, x, t, y],
+        ],
+        query: Vec::new(),
+    };
+    let deck = world.deck();
     let nested = |times: usize| [vec![f; times], vec![a]].concat();
-    // 32 levels, each on a goal of the deepest term that a query can have, matched with itself.
-    hold(&roomy("32 levels", &deck, [vec![p], nested(498)].concat()));
+    // 32 levels, each on the deepest terms that a goal of the clause can have: twice the term, or three times and matched with itself.
+    hold(&roomy("32 levels", &deck, [vec![r], nested(498)].concat()));
+    hold(&roomy("32 levels, matched", &deck, [vec![p], nested(338)].concat()));
     hold(&roomy("two deepest terms", &deck, [vec![e], nested(248), nested(248)].concat()));
     // x0 = x1, x1 = x2, ..: the longest chain of variables that a query can ask for, and the same backwards.
     for turned in [false, true] {
         let list = |from: u16| (0..124).flat_map(move |k| [g, x + from + k]).chain([a]).collect::<Vec<u16>>();
         let (left, right) = if turned { (list(1), list(0)) } else { (list(0), list(1)) };
         let numbered = renumbered([vec![e], left, right].concat());
-        hold(&roomy("a chain of variables", &deck, numbered));
+        hold(&Case { budget: 1_000, ..roomy("a chain of variables", &deck, numbered) });
     }
     doubled();
 }
 
-/// p(x1, .., xn) against p(f(y1, y1), .., f(yn, yn)), and with each x tied to the next, so that the terms double.
+/// p(x1, .., xn) against p(f(y1, y1), .., f(yn, yn)) if t(y1), .., t(yn), and with each x tied to the next.
 fn doubled() {
-    let (f, p) = (0, 1);
+    let (f, p, t, a) = (0, 1, 2, 3);
     for n in 1..=15u16 {
         let tied = |at: u16| vec![f, 32768 + at, 32768 + at];
-        let head: Vec<u16> = [vec![p], (0..n).flat_map(tied).collect()].concat();
-        let (t, start) = (head.len() as u16, vec![0]);
-        let deck = [vec![1, 2, 8, 1, 10, t, 11, 11 + t, 2, 256 + n], start, head].concat();
+        let held = (0..n).flat_map(|at| [t, 32768 + at]);
+        let clause: Vec<u16> = [p].into_iter().chain((0..n).flat_map(tied)).chain(held).collect();
+        let world = World { symbols: vec![2, 256 + n, 257, 0], clauses: vec![clause, vec![t, a]], query: Vec::new() };
+        let deck = world.deck();
         let apart = (0..n).map(|k| 32768 + k);
         hold(&roomy("doubled", &deck, [p].into_iter().chain(apart).collect()));
         let next = (0..n).flat_map(|k| if k == 0 { vec![32768] } else { vec![f, 32768 + k - 1, 32768 + k] });

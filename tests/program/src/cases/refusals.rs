@@ -1,7 +1,7 @@
-//! Refusals 1 to 7 and the lengths at their borders.
+//! Refusals 1 to 7, 13 and 14, and the lengths at their borders.
 
 use super::{case, given, Case};
-use crate::inputs::{bytes, deck, largest_deck, Inputs, L, NOT, X, Y};
+use crate::inputs::{bytes, deck, largest_deck, Inputs, L, NOT, X, Y, Z};
 
 /// By the number of bytes, and the greatest numbers that are accepted.
 pub fn by_bytes() -> Vec<Case> {
@@ -58,6 +58,45 @@ pub fn by_words() -> Vec<Case> {
         asked("a term too many", &[4, 0, 0]),
         asked("a query with variable 1 first", &[4, Y]),
         asked("no such symbol", &[5]),
+    ]
+}
+
+/// Symbols: a, f/1, p/1, q/2, r. The clause stands between r and p(a).
+fn clause(cells: &[u16]) -> Vec<u16> {
+    deck(&[0, 1, 257, 258, 256], &[&[4], cells, &[2, 0]])
+}
+
+/// Loose variables, in a clause and in the query.
+pub fn loose() -> Vec<Case> {
+    let in_clause = |name: &str, cells: &[u16]| case(name, &clause(cells), &[4], "refused 13\n");
+    let held = |name: &str, cells: &[u16]| case(name, &clause(cells), &[4], "all\nfinished 2 1 0 0\ntrue\n");
+    let asked = |name: &str, query: &[u16], start| case(name, &clause(&[4]), query, start);
+    let cyclic = deck(&[258, 1], &[&[0, X, 1, X]]);
+    let clark = deck(&[257, 257, 257, 1, 1, 0], &[&[0, X, 1, Y, 2, Y], &[1, 3, X, 1, X], &[2, 4, X]]);
+    let last = deck(&[256, 257], &[&[0], &[1, X, 1, X], &[1, X]]);
+    vec![
+        in_clause("loose in a fact", &[2, X]),
+        in_clause("loose inside a term of a head", &[2, 1, 1, X, 4]),
+        in_clause("loose in a negated literal", &[4, NOT + 2, X]),
+        in_clause("loose in a head and a negated literal", &[2, X, NOT + 2, X]),
+        in_clause("loose inside a negated term", &[2, X, 2, X, NOT + 3, X, 1, Y]),
+        in_clause("the second of two loose", &[3, X, Y, 2, X]),
+        in_clause("the first of two loose", &[3, X, Y, 2, Y]),
+        held("held inside a term", &[2, X, 2, 1, 1, X]),
+        held("held by the last literal", &[3, X, Y, NOT + 3, Y, Z, 2, Z, 3, Y, X]),
+        held("held beside a not of its own", &[2, 0, NOT + 2, X, 2, X]),
+        case("loose in the last clause", &last, &[0], "refused 13\n"),
+        case("loose, nothing asked", &clause(&[2, X]), &[], "refused 13\n"),
+        case("loose in the deck and the query", &clause(&[2, X]), &[NOT + 2, X], "refused 13\n"),
+        case("a loose deck, a bad query", &clause(&[2, X]), &[0], "refused 7\n"),
+        case("a loose deck, a query of 501 cells", &clause(&[2, X]), &[4; 501], "refused 6\n"),
+        case("q of x and f of x", &cyclic, &[0, X, X], "refused 13\n"),
+        case("Clark's example", &clark, &[0, 5], "refused 13\n"),
+        asked("a query of a not", &[NOT + 2, X], "refused 14\n"),
+        asked("the last of three loose", &[3, X, Y, NOT + 2, 1, Z], "refused 14\n"),
+        asked("the first of two loose in a query", &[NOT + 3, X, Y, 2, Y], "refused 14\n"),
+        asked("a not before what holds it", &[NOT + 2, 1, X, 2, X], "all\nfinished 4 1 0 0\ns0\n"),
+        asked("held inside a term of the query", &[NOT + 3, X, 0, 2, 1, X], "no\nfinished 1 0 0 0\n"),
     ]
 }
 

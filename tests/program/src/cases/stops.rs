@@ -5,16 +5,14 @@ use crate::inputs::{deck, largest_deck, NOT, X};
 
 /// Finished, with goals parked.
 pub fn finished_open() -> Vec<Case> {
-    // a; p(a); p(x) if not q(x).
-    let floundered = deck(&[0, 257, 257], &[&[1, 0], &[1, X, NOT + 2, X]]);
-    // r if not s; s if not q(x).
-    let undecided = deck(&[256, 256, 257], &[&[0, NOT + 1], &[1, NOT + 2, X]]);
     // P(x) if P(f(x)); and with P(a).
     let oversized = deck(&[257, 1, 0], &[&[0, X, 0, 1, X]]);
     let beside = deck(&[257, 1, 0], &[&[0, 2], &[0, X, 0, 1, X]]);
+    // f/1, a, b; p(x) if e(x) and not q(x); e(a); e(b); q(a) if q(f(a)); q(f(x)) if q(f(f(x))).
+    let clauses: [&[u16]; 5] = [&[3, X, 4, X, NOT + 5, X], &[4, 1], &[4, 2], &[5, 1, 5, 0, 1], &[5, 0, X, 5, 0, 0, X]];
+    let undecided = deck(&[1, 0, 0, 257, 257, 257], &clauses);
     vec![
-        case("an answer and a floundered goal", &floundered, &[1, X], "open\nfinished 3 1 0 1\ns0\n"),
-        case("undecided, over a floundered goal", &undecided, &[0], "open\nfinished 4 0 0 1\n"),
+        case("an answer and an undecided goal", &undecided, &[3, X], "open\nfinished 1027 1 0 1\ns2\n"),
         case("oversized", &oversized, &[0, 2], "open\nfinished 1021 0 0 1\n"),
         case("an answer and an oversized goal", &beside, &[0, 2], "open\nfinished 1022 1 0 1\ntrue\n"),
     ]

@@ -42,7 +42,7 @@ impl Engine for crate::judge::Second {
 }
 
 /// What some case must come to.
-pub const WANTED: [&str; 32] = [
+pub const WANTED: [&str; 40] = [
     "finished",
     "budget",
     "answers",
@@ -55,6 +55,12 @@ pub const WANTED: [&str; 32] = [
     "goals fill the store",
     "an inner level cut short",
     "a fifth continuation",
+    "parked anew, floundered",
+    "parked anew, undecided",
+    "parked anew, oversized",
+    "parked deeper, undecided",
+    "parked deeper, oversized",
+    "parked deeper, deep",
     "1",
     "2",
     "3",
@@ -75,6 +81,8 @@ pub const WANTED: [&str; 32] = [
     "12, a count over 32 bits",
     "12, counts that add up over 64 bits",
     "12, answer terms over 32 bits",
+    "13",
+    "13, no goals",
 ];
 
 /// Stand in results that are not to be written.
@@ -132,6 +140,10 @@ fn refused_labels(case: &CarryCase, refused: Refused) -> Vec<&'static str> {
             return vec![labels[number as usize]];
         }
         Refused::Goals(fault) => fault,
+        Refused::Loose if case.given.pending + case.given.parked == 0 => {
+            return vec!["13", "13, no goals"]
+        }
+        Refused::Loose => return vec!["13"],
     };
     let mut labels = vec![match fault {
         Fault::End => "12, end of the store",
@@ -177,6 +189,12 @@ fn ran_labels(case: &CarryCase, outcome: &Outcome) -> Vec<&'static str> {
         (lengths.contains(&1_024), "a goal of 1,024 words"),
         (case.words() == case.store.len(), "goals fill the store"),
         (watch.cut > 0, "an inner level cut short"),
+        (watch.parked[1] > 0, "parked anew, floundered"),
+        (watch.parked[2] > 0, "parked anew, undecided"),
+        (watch.parked[3] > 0, "parked anew, oversized"),
+        (watch.parked_deeper[2] > 0, "parked deeper, undecided"),
+        (watch.parked_deeper[3] > 0, "parked deeper, oversized"),
+        (watch.parked_deeper[4] > 0, "parked deeper, deep"),
     ];
     let more = more.iter().filter(|(so, _)| *so).map(|(_, label)| *label);
     [stops[outcome.stop as usize]]

@@ -90,6 +90,12 @@ impl Call<'_> {
             .map_or(0, |refused| refused.number())
     }
 
+    /// The deck opens, and a clause of it has a loose variable.
+    fn loose(&self) -> bool {
+        let deck = crate::deck::open(self.deck);
+        deck.is_ok_and(|deck| crate::loose::deck(&deck).is_err())
+    }
+
     /// Where the goals are refused, those of another store and other numbers are taken instead, if they are right.
     fn instead(&mut self, mend: impl Fn(&mut CarryCase)) -> u32 {
         if self.number() == 12 {
@@ -142,7 +148,7 @@ fn goals(store: &[u16], number: usize) -> Vec<Vec<u16>> {
     list
 }
 
-pub const SLIPS: [Slip; 42] = [
+pub const SLIPS: [Slip; 50] = [
     slip("a parked goal is resumed", |mut call| {
         if call.number() == 0 && call.given.parked > 0 {
             let from: usize = call.case().lengths()[..call.given.pending as usize]
@@ -471,5 +477,56 @@ pub const SLIPS: [Slip; 42] = [
             .store
             .rotate_right(moves % call.lent.store.len().max(1));
         call.right()
+    }),
+    slip("13 is not given", |mut call| match call.right() {
+        13 => 0,
+        number => number,
+    }),
+    slip("13 is given with goals only", |mut call| {
+        let goals = call.given.pending.saturating_add(call.given.parked);
+        match call.right() {
+            13 if goals == 0 => 0,
+            number => number,
+        }
+    }),
+    slip("13 before 12", |mut call| match call.right() {
+        12 if call.loose() => 13,
+        number => number,
+    }),
+    slip("13 before 9", |mut call| match call.right() {
+        9 if call.loose() => 13,
+        number => number,
+    }),
+    slip("13 before 8", |mut call| match call.right() {
+        8 if call.loose() => 13,
+        number => number,
+    }),
+    slip("14 for a goal with a loose variable", |mut call| {
+        let case = call.case();
+        let floundering = |goal: &Vec<u16>| {
+            let first = goal.get(2 + goal[1] as usize);
+            first.is_some_and(|cell| *cell >= 16_384)
+                && goal.last().is_some_and(|cell| *cell >= 32_768)
+        };
+        let given = goals(&case.store, case.lengths().len());
+        if call.number() == 0 && given.iter().any(floundering) {
+            return 14;
+        }
+        call.right()
+    }),
+    slip("goals marked 1 are no longer taken", |mut call| {
+        let case = call.case();
+        let given = goals(&case.store, case.lengths().len());
+        if call.number() == 0 && given.iter().any(|goal| goal[0] / 4_096 == 1) {
+            return 12;
+        }
+        call.right()
+    }),
+    slip("the store is written before 13", |mut call| {
+        let number = call.right();
+        if let (13, [first, ..]) = (number, &mut *call.lent.store) {
+            *first ^= 1;
+        }
+        number
     }),
 ];

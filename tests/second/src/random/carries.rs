@@ -6,6 +6,7 @@ mod shapes;
 
 use super::dice::Dice;
 use super::texts::small_world;
+use super::tight::{self, Ways};
 use crate::carry::{CarryCase, Given};
 use crate::terms::VARIABLE;
 use crate::world::{renumber, World};
@@ -16,7 +17,10 @@ pub use shapes::{shapes, Shape};
 /// Goals of a random deck, at times damaged; the same for ever.
 pub fn carry_case(seed: u64) -> CarryCase {
     let mut dice = Dice::new(seed ^ 0x5afe);
-    let world = small_world(&mut dice);
+    let mut world = small_world(&mut dice);
+    if dice.chance(14, 15) {
+        tight::make_tight(&mut dice, &mut world, Ways::Any);
+    }
     let mut case = filled(&mut dice, &world);
     case.name = format!("filled-{seed}");
     if dice.chance(1, 3) {

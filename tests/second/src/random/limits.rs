@@ -7,39 +7,37 @@ use crate::case::Case;
 use crate::terms::NEGATED;
 use crate::world::World;
 
-/// Goals with up to a thousand variables meet heads with hundreds.
+/// Goals with up to a thousand variables meet heads with up to a hundred.
 pub fn many_variables(dice: &mut Dice) -> World {
     let mut signature = Signature::default();
     let arity = dice.range(8, 15);
-    let bundle = signature.functor(arity);
+    let (_, bundle) = (signature.functor(0), signature.functor(arity));
     let (q, u) = (signature.predicate(0), signature.predicate(0));
     let (p, w) = (signature.predicate(arity), signature.predicate(1));
-    let groups = (255 / (arity + 1)).min(dice.range(5, 28));
-    let sign = if dice.chance(3, 4) { NEGATED } else { 0 };
+    let group = |first: u16, number: usize| {
+        let variables = (0..arity).map(move |at| variable(number * arity + at));
+        [first].into_iter().chain(variables)
+    };
+    let turned = dice.chance(1, 2);
+    let most = 255 / (arity + 1) / (1 + turned as usize);
+    let groups = most.min(dice.range(5, 28));
     let mut long = vec![q];
-    for group in 0..groups {
-        long.push(sign + p);
-        long.extend((0..arity).map(|at| variable(group * arity + at)));
+    long.extend((0..groups).flat_map(|number| group(p, number)));
+    if turned {
+        long.extend((0..groups).flat_map(|number| group(not(p), groups - 1 - number)));
     }
+    let inner = dice.range(1, 126 / (arity + 1)).min(arity);
     let mut head = vec![w, bundle];
-    for at in 0..arity {
-        if head.len() + 2 * arity < 250 && dice.chance(9, 10) {
-            head.push(bundle);
-            head.extend((0..arity).map(|inner| variable(at * arity + inner)));
-        } else {
-            head.push(variable(at));
-        }
-    }
-    if dice.chance(1, 3) {
-        head.extend([w, variable(0)]);
-    }
+    head.extend((0..inner).flat_map(|number| group(bundle, number)));
+    head.extend((inner..arity).map(variable));
+    head.extend((0..inner).flat_map(|number| group(p, number)));
     let mut any = vec![p];
     any.extend((0..arity).map(|at| variable(at % dice.range(1, arity))));
     let clauses = vec![long, head, vec![u, w, variable(0)], any];
     let mut query = vec![q; dice.range(1, 5)];
-    query.extend([u, u]);
+    query.extend([w, variable(0), u]);
     if dice.chance(1, 4) {
-        query.extend([not(w), variable(0), w, variable(0)]);
+        query.extend([not(w), variable(0)]);
     }
     world(signature, clauses, query)
 }

@@ -1,7 +1,6 @@
--- `checks`: the first refusal of the deck and the sizes, or check 12.
+-- `checks`: the first refusal of the deck and the sizes, or checks 12 and 13.
 use mathlib.Core.Path.{_≡_, sym, _∙_}
 use borrow.Author.Needs.{needs}
-use Rattle.rules.proofs.DeckLaws.{steps-open}
 use Rattle.evaluation.proofs.CarryLaws.{Passed, first-refused, first-passed, carried-as}
 use Rattle.evaluation.proofs.carry.checks.Statement.{statement}
 use Rattle.evaluation.proofs.carry.checks.Tie as tie
@@ -11,7 +10,7 @@ open-goals-requires c κs =
     let a = c .before .before .before .before .before .before .before .args in
     let p = first-passed (a .deck .now) (a .pending) (a .parked) (a .terms) (a .store .now) (a .scratch) (c .before .before .before .before .«open» .result) (c .before .before .before .sizes .result) (c .before .before .before .before .«open» .ensures) (c .before .before .before .sizes .ensures)
     (sym (c .before .before .first-refusal .ensures) ∙ c .enum-told .given .1) in
-    steps-open (a .deck .now) (p .deck) (p .opens) .fits
+    record { deck = p .deck; opens = p .opens }
 
 returns : tie.Need-returns
 returns c =

@@ -12,11 +12,11 @@ const PAD: u16 = 2;
 const Q: u16 = 3;
 const X: u16 = VARIABLE;
 
-/// Symbols: a/0 f/1 pad/0 q/1. pad. q(x) if pad. q(f(x)) if q(x) and not q(a).
+/// Symbols: a/0 f/1 pad/0 q/1. pad. q(a) if pad. q(f(x)) if q(x) and not q(a).
 fn shape(name: &'static str, terms: u64, pending: Vec<Vec<u16>>, parked: Vec<Vec<u16>>) -> Shape {
     let clauses = vec![
         vec![PAD],
-        vec![Q, X, PAD],
+        vec![Q, A, PAD],
         vec![Q, F, X, Q, X, NEGATED + Q, A],
     ];
     let world = World {
@@ -183,12 +183,21 @@ fn orders() -> Vec<CarryCase> {
     wrong.world.clauses.push(vec![PAD; 257]);
     cases.push(wrong.case(5, 1_024));
     wrong.world.clauses.pop();
+    let mut loose = right.world.clone();
+    loose.clauses.push(vec![Q, F, X]);
+    let [mut loose_right, mut loose_wrong] = [right.case(5, 1_024), wrong.case(5, 1_024)];
+    (loose_right.deck, loose_wrong.deck) = (loose.deck(), loose.deck());
     for store_words in [7, 100, 1_023, 1_024, 65_535, 65_536, 70_000] {
         for scratch_words in [0, 8_191, 8_192, 8_193] {
-            for shape in [&right, &wrong] {
+            for case in [
+                &right.case(5, 0),
+                &wrong.case(5, 0),
+                &loose_right,
+                &loose_wrong,
+            ] {
                 for answer_words in [0, 2, 3, 8_192] {
-                    let mut case = shape.case(5, store_words);
-                    case.store.truncate(store_words);
+                    let mut case = case.clone();
+                    case.store.resize(store_words, 0);
                     (case.scratch_words, case.answer_words) = (scratch_words, answer_words);
                     cases.push(case);
                 }

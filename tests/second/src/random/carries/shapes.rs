@@ -36,7 +36,7 @@ impl Shape {
 }
 
 pub fn shapes() -> Vec<Shape> {
-    vec![leads(), propositions(), pairs(), widest()]
+    vec![leads(), propositions(), pairs(), widest(), loose()]
 }
 
 fn world(symbols: &[u16], clauses: &[&[u16]]) -> World {
@@ -89,9 +89,14 @@ fn propositions() -> Shape {
     }
 }
 
-/// Symbols: a/0 f/1 g/2 e/2 p/1. e(x, x). p(f(x)) if p(x). p(g(x, y)) if not e(x, y).
+/// Symbols: a/0 f/1 g/2 e/2 p/1. e(x, x) if p(x). p(f(x)) if p(x). p(g(x, y)) if not e(x, y), p(x), p(y). p(a).
 fn pairs() -> Shape {
-    let clauses: [&[u16]; 3] = [&[3, X, X], &[4, 1, X, 4, X], &[4, 2, X, Y, NOT + 3, X, Y]];
+    let clauses: [&[u16]; 4] = [
+        &[3, X, X, 4, X],
+        &[4, 1, X, 4, X],
+        &[4, 2, X, Y, NOT + 3, X, Y, 4, X, 4, Y],
+        &[4, 0],
+    ];
     Shape {
         name: "pairs",
         world: world(&[0, 1, 2, 258, 257], &clauses),
@@ -105,14 +110,27 @@ fn pairs() -> Shape {
     }
 }
 
-/// Symbols of 15 places; 15 answer terms.
+/// A deck with a loose variable, and goals that are right: a/0 p/1 q/1. p(a). q(x) if not p(x).
+fn loose() -> Shape {
+    let clauses: [&[u16]; 2] = [&[1, 0], &[2, X, NOT + 1, X]];
+    Shape {
+        name: "a loose variable",
+        world: world(&[0, 257, 257], &clauses),
+        pending: vec![goal(0, 1, &[X, 1, X])],
+        parked: vec![goal(1, 1, &[X, NOT + 1, X])],
+        terms: 1,
+    }
+}
+
+/// Symbols of 15 places; 15 answer terms. A clause that turns its arguments, and a fact.
 fn widest() -> Shape {
     let row: Vec<u16> = (0..15).map(|at| X + at).collect();
     let turned: Vec<u16> = (0..15).map(|at| X + (15 - at) % 15).collect();
-    let clause = [&[1][..], &row].concat();
+    let clause = [&[1][..], &row, &[1], &turned].concat();
+    let fact = [&[1][..], &[2; 15]].concat();
     Shape {
         name: "widest",
-        world: world(&[15, 271, 0], &[&clause]),
+        world: world(&[15, 271, 0], &[&clause, &fact]),
         pending: vec![
             goal(0, 15, &[&row[..], &[1], &turned].concat()),
             goal(
