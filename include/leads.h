@@ -39,8 +39,15 @@ uint32_t leads_open(const uint16_t *deck, size_t deck_words);
 uint32_t leads_check(const uint16_t *deck, size_t deck_words, const uint16_t *query, size_t query_words);
 
 /* Runs a query: refusals 1 to 9, 13 and 14. Where it returns 0:
- *   stop          0 finished, 1 budget spent, 2 the next answer does not fit, 3 the next step's goals do not fit the store
- *   steps         the steps used over all levels, at most the budget
+ *   stop          0 finished, 1 the next step's cost is not left of the budget, 2 the next answer does not fit, 3 the next step's goals
+ *                 do not fit the store
+ *   steps         the steps used over all levels, at most the cost
+ *   cost          what they cost together, at most the budget. A step on a positive literal costs 1 and one more for each equation that
+ *                 matching takes, over every clause about its predicate, whether it matches or not; so looking through a thousand facts
+ *                 of one place costs a thousand. Every other step costs 1. A step is taken only if its whole cost is left, so a
+ *                 run may stop with 1 and budget left; a step not taken adds nothing to steps or cost. A match is broken off where its
+ *                 equations pass what is left, so doubled terms do not make a call run on. The cost is not a time: an
+ *                 equation between long terms with many variables can take a millisecond
  *   answer_count  the number of goals at the start of the answer list; the words after them are untouched
  *   pending, parked   the numbers of goals at the start of the store: the pending ones in order, then the parked ones in order of
  *                 parking; the rest of the store, and the scratch, are free
@@ -50,8 +57,8 @@ uint32_t leads_check(const uint16_t *deck, size_t deck_words, const uint16_t *qu
  * Every length of the answer list and every budget is accepted, 0 included. */
 uint32_t leads_run(const uint16_t *deck, size_t deck_words, const uint16_t *query, size_t query_words, uint32_t budget,
                    uint16_t *answers, size_t answer_words, uint16_t *store, size_t store_words, uint16_t *scratch,
-                   size_t scratch_words, uint32_t *stop, uint32_t *steps, uint64_t *answer_count, uint32_t *pending,
-                   uint32_t *parked);
+                   size_t scratch_words, uint32_t *stop, uint32_t *steps, uint32_t *cost, uint64_t *answer_count,
+                   uint32_t *pending, uint32_t *parked);
 
 /* Reads a text as a deck: refusal 10 of the text, then 11 where the words do not fit in the list or are over 16,384, then 1 to 5 of the
  * deck. Where it returns 0, the list begins with the deck, of deck_words words; the words after it are untouched. place is
@@ -73,13 +80,14 @@ uint32_t leads_write_text(const uint16_t *deck, size_t deck_words, uint8_t *text
  * pending ones marked 0, then parked ones marked 1 to 4, each of that many answer terms and 1,024 words or fewer, its variables numbered by
  * first appearance, answer terms first; else it is refused with 12. Goals that no run has left may have loose variables: then one may be
  * parked with mark 1, and an answer may have a variable. Pending goals go on, parked ones stay parked, with new ones behind them.
- * A "not" that was cut short has left its goal first and pending, as it was, and is done again from its start: so the steps of the runs need
- * not add up to those of one run, and with a budget too small for the whole "not" nothing moves. The results are as those of leads_run:
- * steps and answer_count of this call, pending_after and parked_after the numbers of goals that the store begins with now. */
+ * A "not" that was cut short has left its goal first and pending, as it was, and is done again from its start: so the steps and the cost of
+ * the runs need not add up to those of one run, and with a budget too small for the whole "not", or for one step, nothing moves. The results
+ * are as those of leads_run: steps, cost and answer_count of this call, pending_after and parked_after the numbers of goals that the store
+ * begins with now. */
 uint32_t leads_continue(const uint16_t *deck, size_t deck_words, uint64_t pending, uint64_t parked, uint64_t terms, uint32_t budget,
                         uint16_t *answers, size_t answer_words, uint16_t *store, size_t store_words, uint16_t *scratch,
-                        size_t scratch_words, uint32_t *stop, uint32_t *steps, uint64_t *answer_count, uint32_t *pending_after,
-                        uint32_t *parked_after);
+                        size_t scratch_words, uint32_t *stop, uint32_t *steps, uint32_t *cost, uint64_t *answer_count,
+                        uint32_t *pending_after, uint32_t *parked_after);
 
 #ifdef __cplusplus
 }

@@ -1,4 +1,4 @@
-//! `bench`: steps and clauses tried per second. Buffers are cleared once, before the first run of a deck.
+//! `bench`: steps, cost and clauses tried per second. Buffers are cleared once, before the first run of a deck.
 //! `bench deck NAME FILE`: writes the words of the deck `leads`, `chain` or `largest` to a file; `bench text NAME FILE`: its text.
 //! `bench read FILE`: the time of reading a text, in nanoseconds.
 
@@ -61,6 +61,15 @@ fn doubling(n: u16) -> (Vec<u16>, Vec<u16>) {
     (deck(vec![2, 256 + n, 257, 0], &[clause, vec![e, a]]), query)
 }
 
+/// e(list, list) against e(x, x) if t(x): x0 = f(x1, x1), x1 = f(x2, x2) and on, and x0 = x0, a term doubled n times.
+fn vast(n: u16) -> (Vec<u16>, Vec<u16>) {
+    let (a, f, g, e, t, x) = (0, 1, 2, 3, 4, VARIABLE);
+    let left = (0..n).chain([0]).flat_map(|at| [g, x + at]).chain([a]);
+    let right = (0..n).flat_map(|at| [g, f, x + at + 1, x + at + 1]).chain([g, x, a]);
+    let query = [e].into_iter().chain(left).chain(right).collect();
+    (deck(vec![0, 2, 2, 258, 257], &[vec![e, x, x, t, x]]), query)
+}
+
 /// Links between 2,000 stations, what is reached and what is not, in just 16,384 words.
 fn largest() -> (Vec<u16>, Vec<u16>) {
     let stations = 2000;
@@ -113,19 +122,24 @@ fn reading(text: &[u8]) -> Duration {
     (0..10).map(|_| stretch()).min().expect("ten")
 }
 
+/// Enough for all decks but the last ones to finish.
+const BUDGET: u32 = 100_000_000;
+/// The program's own.
+const PROGRAM: u32 = 100_000;
+
 struct Timed {
     report: Report,
     each: Duration,
 }
 
-fn timed(deck: &[u16], query: &[u16]) -> Timed {
+fn timed(deck: &[u16], query: &[u16], budget: u32) -> Timed {
     let (mut answers, mut store, mut scratch) = (vec![0; 8192], vec![0; 16384], vec![0; 8192]);
     let mut report = Report::default();
     let mut runs = 0;
     let start = Instant::now();
     while runs < 3 || start.elapsed() < Duration::from_millis(500) {
         let lent = Lent { answers: &mut answers, store: &mut store, scratch: &mut scratch };
-        let refused = compare::run(deck, query, 100_000, lent, &mut report);
+        let refused = compare::run(deck, query, budget, lent, &mut report);
         assert_eq!(refused, 0, "the deck is accepted");
         runs += 1;
     }
@@ -133,22 +147,24 @@ fn timed(deck: &[u16], query: &[u16]) -> Timed {
 }
 
 /// The clauses that a run tries, counted by the second evaluator.
-fn tried(deck: &[u16], query: &[u16]) -> u64 {
-    second::run(deck, query, 100_000, 8192, 16384, 8192).expect("the deck is accepted").watch.tried.get()
+fn tried(deck: &[u16], query: &[u16], budget: u32) -> u64 {
+    second::run(deck, query, budget, 8192, 16384, 8192).expect("the deck is accepted").watch.tried.get()
 }
 
-fn show(name: &str, (deck, query): &(Vec<u16>, Vec<u16>)) {
-    let t = timed(deck, query);
-    let tried = tried(deck, query);
+fn show(name: &str, (deck, query): &(Vec<u16>, Vec<u16>), budget: u32) {
+    let t = timed(deck, query, budget);
+    let tried = tried(deck, query, budget);
     let seconds = t.each.as_secs_f64();
     let per = |n: f64| n / seconds / 1e6;
     println!(
-        "{name:16} {:6} words {:6} steps {:5} answers {:9.1?} a run {:7.2} M steps/s {:8.2} M clauses/s",
+        "{name:16} {:6} words {:6} steps {:8} cost {:5} answers {:9.1?} a run {:7.2} M steps/s {:8.2} M cost/s {:8.2} M clauses/s",
         deck.len(),
         t.report.steps,
+        t.report.cost,
         t.report.answers,
         t.each,
         per(t.report.steps as f64),
+        per(t.report.cost as f64),
         per(tried as f64),
     );
 }
@@ -170,12 +186,15 @@ fn main() {
 
 fn runs() {
     for ends in [250, 500, 1000, 2000] {
-        show(&format!("leads {ends}"), &leads(ends));
+        show(&format!("leads {ends}"), &leads(ends), BUDGET);
     }
     for stations in [25, 50, 100] {
-        show(&format!("chain {stations}"), &chain(stations));
+        show(&format!("chain {stations}"), &chain(stations), BUDGET);
     }
     for n in [5, 10, 15] {
-        show(&format!("doubling {n}"), &doubling(n));
+        show(&format!("doubling {n}"), &doubling(n), BUDGET);
+    }
+    for n in [15, 16, 60] {
+        show(&format!("vast {n}"), &vast(n), PROGRAM);
     }
 }

@@ -32,7 +32,7 @@ pub fn open_printed(
     query: &[u8],
     limited: bool,
     limit: &[u8],
-    out: &mut [u8; 65594],
+    out: &mut [u8; 65605],
     left: &mut [u8; 32792],
 ) -> Outputs
     ensures { λ r. ⌜ Both (openRun (fileOf present (now (deck .entry))) (now (query .entry)) (budgetFrom (fileOf limited (now (limit .entry))))) (now (out .entry)) (now (left .entry)) (r .listing) (r .goals) (now (out .exit)) (now (left .exit)) ⌝ }
@@ -60,7 +60,7 @@ fn open_run(
     deck: &[u16],
     query: &[u16],
     budget: u32,
-    out: &mut [u8; 65594],
+    out: &mut [u8; 65605],
     left: &mut [u8; 32792],
 ) -> Outputs
     ensures { λ r. ⌜ Both (openWords (now (deck .entry)) (now (query .entry)) budget) (now (out .entry)) (now (left .entry)) (r .listing) (r .goals) (now (out .exit)) (now (left .exit)) ⌝ }
@@ -80,7 +80,7 @@ pub fn carry_printed(
     kept: bool,
     goals: &[u8],
     limit: &[u8],
-    out: &mut [u8; 65594],
+    out: &mut [u8; 65605],
     left: &mut [u8; 32792],
 ) -> Outputs
     ensures { λ r. ⌜ Both (carryRun (fileOf present (now (deck .entry))) (fileOf kept (now (goals .entry))) (budgetFrom (some (now (limit .entry))))) (now (out .entry)) (now (left .entry)) (r .listing) (r .goals) (now (out .exit)) (now (left .exit)) ⌝ }
@@ -106,7 +106,7 @@ fn carry_run(
     deck: &[u16],
     goals: &[u8],
     budget: u32,
-    out: &mut [u8; 65594],
+    out: &mut [u8; 65605],
     left: &mut [u8; 32792],
 ) -> Outputs
     requires { ⌜ (24 ≤ length (now goals)) × (length (now goals) ≤ 32792) ⌝ }

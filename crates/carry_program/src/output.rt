@@ -20,7 +20,7 @@ pub fn ended(
     terms: u64,
     answers: &[u16],
     store: &[u16],
-    out: &mut [u8; 65594],
+    out: &mut [u8; 65605],
     left: &mut [u8; 32792],
 ) -> Outputs
     requires { ⌜ (length (now answers) ≤ 8192) × (length (now store) ≤ 16384) ⌝ }
@@ -43,7 +43,7 @@ fn done(
     terms: u64,
     answers: &[u16],
     store: &[u16],
-    out: &mut [u8; 65594],
+    out: &mut [u8; 65605],
     left: &mut [u8; 32792],
 ) -> Outputs
     requires { ⌜ (length (now answers) ≤ 8192) × (length (now store) ≤ 16384) ⌝ }

@@ -8,16 +8,16 @@ use lib.Seq.{sets, take-at, take-take, length-take-le}
 use Rattle.rules.specs.Terms.{Terms, sizes}
 use Rattle.rules.specs.Syntax.{Literal, Deck, Goal, topGoal}
 use Rattle.rules.specs.Goals.{pending, markNumber, marked, unmarked, goalCells, goalWords, writeGoal, writeGoals, wordsOf}
-use Rattle.rules.specs.Resolution.{resolvents}
+use Rattle.rules.specs.Resolution.{positive, resolvents, selectedCost}
 use Rattle.rules.specs.WellFormed.{WfGoal}
 use Rattle.rules.proofs.ListLaws.{all-append}
 use Rattle.rules.proofs.GoalLaws.{goal-words, goal-length, goals-length, unmarked-words, goals-append, wordsOf-append, unmarked-append}
 use Rattle.rules.proofs.DeckLaws.{opened-written}
 use Rattle.rules.proofs.FormedLaws.{resolvents-wf}
 use Rattle.words.proofs.StoreLaws.{rev, length-rev, take-sets, mirror-length, children-on}
-use Rattle.derivation.specs.Derives.{Tries, Deriving, Derives, Writes}
+use Rattle.derivation.specs.Derives.{Tries, sumOf, Deriving, Derives, Writes}
 use Rattle.derivation.specs.declared.Children.the-variants as kinds
-use Rattle.derivation.specs.declared.Derived.the-variants.{Words, Oversized, NoRoom}
+use Rattle.derivation.specs.declared.Derived.the-variants.{Words, Oversized, NoRoom, Unpaid}
 
 -- What the code's numbers satisfy.
 pub record Numbers (store cells : List ℕ) (base held answers : ℕ) : Type 0 where
@@ -76,6 +76,14 @@ module _
       sym (take-take base held store (omega (arith, x .begins))) ∙ ap (take base) parts
       ∙ take-at R (reverse (writeGoal (marked pending g))) base (length-reverse (writeGoals (unmarked gs)) ∙ rest-length)
 
+  -- What the step costs.
+  abbrev cost : ℕ
+  cost = selectedCost (d .clauses) g (positive before p ts after)
+
+  cost-is : cost ≡ suc (sumOf d g p ts)
+  unfolding selectedCost
+  cost-is = refl
+
   -- The goal is written back.
   abbrev back : List ℕ → List ℕ → List ℕ
   back store₁ cells₁ = sets store₁ base (reverse ((held - base) ∷ answers ∷ take (held - base - 2) cells₁))
@@ -91,16 +99,23 @@ module _
     abbrev ds : List Goal
     ds = resolvents (d .clauses) g before p ts after
 
-    pub derives-oversized : Writes store base ds store₁ kinds.Oversized → Derives (d .symbols) store held gs ds (back store₁ cells₁) Oversized
-    derives-oversized w = (w .0, restored)
+    pub derives-oversized : (left rest : ℕ) → 0 < left → Writes store base ds (sumOf d g p ts) (left - 1) store₁ (kinds.Oversized rest)
+        → Derives (d .symbols) store held gs ds cost left (back store₁ cells₁) (Oversized rest)
+    derives-oversized left rest some w = (w .0, restored, omega (arith, cost-is, w .2))
 
-    pub derives-no-room : (end : ℕ) → Writes store base ds store₁ (kinds.To end) → length store₁ < end → Derives (d .symbols) store held gs ds (back store₁ cells₁) NoRoom
-    derives-no-room end w h =
-        (w .0, omega (arith, w .2, wordsOf-append ds gs, rest-length, goals-length (unmarked gs), unmarked-words gs), restored)
+    pub derives-no-room : (left end rest : ℕ) → 0 < left → Writes store base ds (sumOf d g p ts) (left - 1) store₁ (kinds.To end rest) → length store₁ < end
+        → Derives (d .symbols) store held gs ds cost left (back store₁ cells₁) NoRoom
+    derives-no-room left end rest some w h =
+        (w .0, omega (arith, w .2, wordsOf-append ds gs, rest-length, goals-length (unmarked gs), unmarked-words gs), restored, omega (arith, cost-is, w .4))
 
-  pub derives-words : (store₁ : List ℕ) (end : ℕ) → length store₁ ≡ length store → Writes store base (resolvents (d .clauses) g before p ts after) store₁ (kinds.To end) → end ≤ length store₁
-      → Derives (d .symbols) store held gs (resolvents (d .clauses) g before p ts after) (rev base end store₁) (Words end)
-  derives-words store₁ end long w h =
+    pub derives-unpaid : (left : ℕ) → 0 < left → Writes store base ds (sumOf d g p ts) (left - 1) store₁ kinds.Unpaid
+        → Derives (d .symbols) store held gs ds cost left (back store₁ cells₁) Unpaid
+    derives-unpaid left some w = (omega (arith, cost-is, w .0), restored)
+
+  pub derives-words : (store₁ : List ℕ) (left end rest : ℕ) → length store₁ ≡ length store → 0 < left
+      → Writes store base (resolvents (d .clauses) g before p ts after) (sumOf d g p ts) (left - 1) store₁ (kinds.To end rest) → end ≤ length store₁
+      → Derives (d .symbols) store held gs (resolvents (d .clauses) g before p ts after) cost left (rev base end store₁) (Words end rest)
+  derives-words store₁ left end rest long some w h =
       let ds = resolvents (d .clauses) g before p ts after in
       let cs = writeGoals (unmarked ds) in
       let b : base ≤ end = omega (arith, w .2) in
@@ -117,4 +132,5 @@ module _
               (x .holding .wellFormed .1);
           words = rw all (children-on store₁ cs (writeGoals (unmarked gs)) base end rest-length n (w .3 (omega arith) ∙ rw rest-words) .0);
         },
+        omega (arith, cost-is, w .4),
       )

@@ -18,7 +18,7 @@ use Rattle.rules.specs.Run.{Slices}
 use Rattle.rules.specs.ThreeValues.{ExcludedMiddle}
 use Rattle.rules.specs.Demand.{Covered, Valued, Known, CoveredFrom, ValuedFrom, KnownFrom, SaidOn, DemandOn}
 use Rattle.rules.proofs.StoredLaws.{open-reads, open-list}
-use Rattle.rules.proofs.Carried.{CarriesOn, CarriedOn, goesOn, demand-on, demand-on-valued, demand-on-known, on-within, carries-on, fresh-carries, carried-covers, query-carried, query-carried-values, query-carried-stays}
+use Rattle.rules.proofs.Carried.{CarriesOn, CarriedOn, goesOn, demand-on, demand-on-valued, demand-on-known, on-within, on-spends, carries-on, fresh-carries, carried-covers, query-carried, query-carried-values, query-carried-stays}
 use Rattle.report.specs.Reports.{reportOf}
 use Rattle.report.specs.declared.Report.{Report}
 use Rattle.evaluation.specs.Results.{slices}
@@ -56,7 +56,10 @@ module _ (κs : Lfts 4) (entry : ArgsD signature κs) (exit : AtExit ended κs) 
   pub public-carries-on : CarriesOn (now (entry .0)) (entry .1 .1 .1 .0) (reportOf r) (leftOn κs exit)
   public-carries-on = carries-on (now (entry .0)) (entry .1 .0) (entry .1 .1 .0) (entry .1 .1 .1 .0) (entry .1 .1 .1 .1 .0) (lentOn κs entry) (leftOn κs exit) (reportOf r) post
 
-  -- The steps that it returns are at most the budget.
+  -- No more steps than their cost, and a cost of at most the budget; so no more steps than the budget.
+  pub public-on-spends : (r .steps ≤ r .cost) × (r .cost ≤ entry .1 .1 .1 .1 .0)
+  public-on-spends = on-spends (now (entry .0)) (entry .1 .0) (entry .1 .1 .0) (entry .1 .1 .1 .0) (entry .1 .1 .1 .1 .0) (lentOn κs entry) (leftOn κs exit) (reportOf r) post
+
   pub public-on-steps-within : r .steps ≤ entry .1 .1 .1 .1 .0
   public-on-steps-within = on-within (now (entry .0)) (entry .1 .0) (entry .1 .1 .0) (entry .1 .1 .1 .0) (entry .1 .1 .1 .1 .0) (lentOn κs entry) (leftOn κs exit) (reportOf r) post
 

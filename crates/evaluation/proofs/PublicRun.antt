@@ -1,26 +1,21 @@
 -- What the contract of `run` says about the completed deck. Of whatever words are passed, and whatever report and words come back, as long as they
 -- meet what the contract ensures (its reading `Post`), demand 3 holds, and its corollaries, in every interpretation, of two values and of three.
--- And the steps are at most the budget.
-use Prim.Native.Nat.{ℕ, _+_, _≤_}
-use mathlib.Core.Path.{_≡_, refl, ap}
+-- And the steps are at most the cost, and the cost at most the budget.
+use Prim.Native.Nat.{_+_, _≤_}
+use mathlib.Core.Path.{_≡_}
 use mathlib.Core.Logic.{_↔_}
-use mathlib.Core.List.{List, [], _∷_}
 use native.Mathlib.Omega.{arith}
 use lib.ListN.{length}
 use contract.Lifetimes.{Lfts}
 use denote.Ref.{now}
 use denote.Triple.Clauses.{AtExit}
 use borrow.Fn.World.{ArgsD}
-use Rattle.rules.specs.Refusals.{Checked, refused, accepted}
-use Rattle.rules.specs.Goals.{queryVariables, firstGoal}
-use Rattle.rules.specs.Evaluation.{Outcome}
-use Rattle.rules.specs.Run as rules
-use Rattle.rules.specs.Run.{Slices, report, returned, runOn, Ran}
+use Rattle.rules.specs.Goals.{queryVariables}
+use Rattle.rules.specs.Run.{Slices}
 use Rattle.rules.specs.Meaning.{Inds, Interpretation, Satisfies, individuals, QueryHolds, SomeCovers}
 use Rattle.rules.specs.ThreeValues.{_≈_, Interpretation3, Satisfies3, queryValue, goalsValue, ExcludedMiddle}
 use Rattle.rules.specs.Demand.{Valued, Known, Said, Demand3}
-use Rattle.rules.proofs.EndLaws.{steps-within}
-use Rattle.rules.proofs.Demand3.{run-accepted, demand-3, all-listed, nothing-left, demand-3-valued, demand-3-known, all-listed-valued, nothing-left-false}
+use Rattle.rules.proofs.Demand3.{ran-spends, demand-3, all-listed, nothing-left, demand-3-valued, demand-3-known, all-listed-valued, nothing-left-false}
 use Rattle.report.specs.Reports.{reportOf}
 use Rattle.report.specs.declared.Report.{Report}
 use Rattle.evaluation.specs.Results.{slices}
@@ -32,29 +27,15 @@ use Rattle.evaluation.proofs.run.Reads.{Post}
 abbrev pub leftIn : (κs : Lfts 5) → AtExit ended κs → Slices
 leftIn κs exit = slices (now (exit .1 .1 .1 .0)) (now (exit .1 .1 .1 .1 .0)) (now (exit .1 .1 .1 .1 .1 .0))
 
--- The steps of an accepted run are at most the budget.
-ran-within : (deckWords queryWords : List ℕ) (budget : ℕ) (entry exit : Slices) (r : rules.Report) → Ran deckWords queryWords budget entry (accepted r) exit → r .steps ≤ budget
-unfolding returned runOn report
-ran-within deckWords queryWords budget entry exit r ran = go (runOn deckWords queryWords budget entry) refl (ran .returns)
-  where
-    go : (c : Checked Outcome) → runOn deckWords queryWords budget entry ≡ c → accepted r ≡ returned c → r .steps ≤ budget
-    go (refused n) e back = absurd (let z : _≡_ {A = ℕ} 0 1 = cc in omega arith)
-    go (accepted o) e back =
-        let a = run-accepted deckWords queryWords budget (length (entry .answers)) (length (entry .store)) (length (entry .scratch)) o e in
-        let same : r ≡ report o = cc in
-        omega (
-          arith,
-          ap (λ (x : rules.Report). x .steps) same,
-          ap (λ (x : Outcome). x .steps) (a .evaluates),
-          steps-within (a .deck) (length (entry .answers)) (length (entry .store)) (firstGoal (a .query) ∷ []) [] budget,
-        )
-
 module _ (κs : Lfts 5) (entry : ArgsD signature κs) (exit : AtExit ended κs) (r : Report) (post : Post κs entry (Done r) exit) where
-  -- The steps that it returns are at most the budget.
-  pub public-steps-within : r .steps ≤ entry .1 .1 .0
-  public-steps-within =
-      ran-within (now (entry .0)) (now (entry .1 .0)) (entry .1 .1 .0)
+  -- No more steps than their cost, and a cost of at most the budget; so no more steps than the budget.
+  pub public-spends : (r .steps ≤ r .cost) × (r .cost ≤ entry .1 .1 .0)
+  public-spends =
+      ran-spends (now (entry .0)) (now (entry .1 .0)) (entry .1 .1 .0)
       (slices (now (entry .1 .1 .1 .0)) (now (entry .1 .1 .1 .1 .0)) (now (entry .1 .1 .1 .1 .1 .0))) (leftIn κs exit) (reportOf r) post
+
+  pub public-steps-within : r .steps ≤ entry .1 .1 .0
+  public-steps-within = omega (arith, public-spends)
 
   -- DEMAND 3 OF THE PUBLIC RUN
   pub public-demand-3 : Demand3 (now (entry .0)) (now (entry .1 .0)) (reportOf r) (leftIn κs exit)

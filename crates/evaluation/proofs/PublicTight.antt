@@ -15,7 +15,7 @@ use Rattle.rules.specs.Refusals.{accepted}
 use Rattle.rules.specs.Decks.{openDeck, readQuery}
 use Rattle.rules.specs.Goals.{Marked, readGoals}
 use Rattle.rules.specs.WellFormed.{All}
-use Rattle.rules.specs.Evaluation.{Level, Place}
+use Rattle.rules.specs.Evaluation.{Level, Place, Account}
 use Rattle.rules.specs.Passes.{FreshPasses}
 use Rattle.rules.specs.Run.{Slices}
 use Rattle.rules.proofs.TightLaws.{Unfloundered, Closed}
@@ -35,7 +35,7 @@ module _ (κs : Lfts 5) (entry : ArgsD signature κs) (exit : AtExit ended κs) 
 
   -- NEVER MARK 1, on any level: whatever level the run passes, of the deck that was opened and the query that was read.
   pub public-never-flounders : (deck : Deck) → openDeck (now (entry .0)) ≡ accepted deck → (query : List Literal) → readQuery deck (now (entry .1 .0)) ≡ accepted query
-      → (below : ℕ) (at : Place) (l : Level) (left : ℕ) → FreshPasses deck (length (lent .answers)) (length (lent .store)) query (entry .1 .1 .0) below at l left
+      → (below : ℕ) (at : Place) (l : Level) (a : Account) → FreshPasses deck (length (lent .answers)) (length (lent .store)) query (entry .1 .1 .0) below at l a
       → All Unfloundered (l .parked)
   public-never-flounders = ran-never-flounders (now (entry .0)) (now (entry .1 .0)) (entry .1 .1 .0) lent (leftIn κs exit) (reportOf r) post
 

@@ -12,6 +12,7 @@ use Rattle.rules.specs.Refusals.{Refusal, badStore, badScratch, Checked, refuse
 use Rattle.rules.specs.Decks.{openDeck, readQuery, symbolWords}
 use Rattle.rules.specs.Loose.{checkTightQuery}
 use Rattle.rules.specs.Goals.{unmarked, writeGoals, wordsOf, firstGoal}
+use Rattle.rules.specs.Evaluation as rules
 use Rattle.rules.specs.Evaluation.{Outcome, evaluate, evaluateLevel, zeroth, outcome, stopOf}
 use Rattle.rules.specs.Run.{run, checkSizes, report, returned, answersAfter, storeStart, Slices, Leaves, Gives, runOn, Ran}
 use Rattle.rules.proofs.GoalLaws.{goals-length, unmarked-words}
@@ -212,8 +213,10 @@ pub topped-as : {d : Deck} {answers store₁ store answers′ store′ : List �
 topped-as {d} {answers} {gs = gs} {ms} {total} e t =
     record {
       level = t .level;
-      ends = ap (λ (n : ℕ). evaluateLevel (d .clauses) (length answers) n 32 zeroth (opening gs ms) total) (sym e) ∙ t .ends;
-      within = t .within;
+      ends = ap (λ (n : ℕ). evaluateLevel (d .clauses) (length answers) n 32 zeroth (opening gs ms) (rules.opening total)) (sym e) ∙ t .ends;
+      account = t .account;
+      steps = t .steps;
+      cost = t .cost;
       listed = t .listed;
       answered = t .answered;
       ordered = t .ordered;
@@ -226,17 +229,13 @@ module _ (d : Deck) (gs : List Goal) (ms : List Marked) (total : ℕ) (answers s
   unfolding evaluate outcome stopOf returned report Leaves answersAfter storeStart
   gives-accepted c e same rest t =
       let l = t .level in
-      let o : Outcome = record { stop = stopOf′ (r .stop); steps = r .steps; answers = l .answers; pending = l .pending; parked = l .parked } in
-      let steps : total - (total - r .steps) ≡ r .steps = omega (arith, t .within) in
+      let o : Outcome = record { stop = stopOf′ (r .stop); steps = t .account .steps; cost = total - t .account .left; answers = l .answers; pending = l .pending; parked = l .parked } in
       let is : c ≡ accepted o =
-      e
-      ∙ ap accepted
-      (ap (outcome total) (t .ends)
-      ∙ ap {B = Outcome} (λ (n : ℕ). record { stop = stopOf′ (r .stop); steps = n; answers = l .answers; pending = l .pending; parked = l .parked }) steps) in
+      e ∙ ap accepted (ap (outcome total) (t .ends)) in
       let n : length (writeGoals (unmarked (l .answers))) ≡ wordsOf (l .answers) = goals-length (unmarked (l .answers)) ∙ unmarked-words (l .answers) in
       record {
         returns =
-            (λ i. accepted (record { stop = stopOf′ (r .stop); steps = r .steps; answers = t .answered i; pending = t .ordered .pending i; parked = t .ordered .parked i }))
+            (λ i. accepted (record { stop = stopOf′ (r .stop); steps = t .steps i; cost = t .cost i; answers = t .answered i; pending = t .ordered .pending i; parked = t .ordered .parked i }))
             ∙ ap returned (sym is);
         leaves = subst (λ (x : Checked Outcome). Leaves x (slices answers store scratch) (slices answers′ store′ scratch′)) (sym is)
             (record {

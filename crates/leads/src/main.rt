@@ -5,7 +5,7 @@ ghost use Rattle.io.specs.Counts.{Counts};
 fn main() {
     let mut deck = [0u8; 32770];
     let mut query = [0u8; 1002];
-    let mut out = [0u8; 65594];
+    let mut out = [0u8; 65605];
     let file = os::open_read(b"survey.dck");
     let present = 0 <= file;
     let d = contents(file, &mut deck);

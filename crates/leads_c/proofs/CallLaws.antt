@@ -16,6 +16,6 @@ pub tells-refused : (r : Ran) (why : Refusal) (n : ℕ) (before : Numbers) → r
 tells-refused r why n before e f = subst (λ (x : Ran). Tells (resultOf x) before n before) (sym e) (f, refl)
 
 pub tells-done : (r : Ran) (report : Report) (stop : ℕ) (before : Numbers) → r ≡ Done report → stop ≡ stopNumber (stopOf (report .stop))
-    → Tells (resultOf r) before 0 (numbers stop (report .steps) (report .answers) (report .pending) (report .parked))
+    → Tells (resultOf r) before 0 (numbers stop (report .steps) (report .cost) (report .answers) (report .pending) (report .parked))
 tells-done r report stop before e f =
-    subst (λ (x : Ran). Tells (resultOf x) before 0 (numbers stop (report .steps) (report .answers) (report .pending) (report .parked))) (sym e) (refl, rw f refl)
+    subst (λ (x : Ran). Tells (resultOf x) before 0 (numbers stop (report .steps) (report .cost) (report .answers) (report .pending) (report .parked))) (sym e) (refl, rw f refl)

@@ -9,15 +9,16 @@ use Rattle.rules.specs.Run.{Report, Slices, Gives, runOn, carryFrom}
 pub record Numbers : Type 0 where
   pub stop : ℕ
   pub steps : ℕ
+  pub cost : ℕ
   pub answers : ℕ
   pub pending : ℕ
   pub parked : ℕ
 
-abbrev pub numbers : ℕ → ℕ → ℕ → ℕ → ℕ → Numbers
-numbers stop steps answers pending parked = record { stop = stop; steps = steps; answers = answers; pending = pending; parked = parked }
+abbrev pub numbers : ℕ → ℕ → ℕ → ℕ → ℕ → ℕ → Numbers
+numbers stop steps cost answers pending parked = record { stop = stop; steps = steps; cost = cost; answers = answers; pending = pending; parked = parked }
 
 abbrev pub numbersOf : Report → Numbers
-numbersOf r = numbers (stopNumber (r .stop)) (r .steps) (r .answers) (r .pending) (r .parked)
+numbersOf r = numbers (stopNumber (r .stop)) (r .steps) (r .cost) (r .answers) (r .pending) (r .parked)
 
 -- A refusal returns its number and leaves the numbers as they were; else 0 is returned and the numbers are the report's.
 abbrev pub Tells : Checked Report → Numbers → ℕ → Numbers → Type 0

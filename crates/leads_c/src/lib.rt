@@ -35,14 +35,15 @@ pub extern "C" fn leads_run(
     scratch: &mut [u16],
     stop: &mut u32,
     steps: &mut u32,
+    cost: &mut u32,
     answer_count: &mut u64,
     pending: &mut u32,
     parked: &mut u32,
 ) -> u32
-    ensures { λ r. ⌜ Called (now (deck .entry)) (now (query .entry)) budget (slices (now (answers .entry)) (now (store .entry)) (now (scratch .entry))) (numbers (now (stop .entry)) (now (steps .entry)) (now («answer_count» .entry)) (now (pending .entry)) (now (parked .entry))) r (slices (now (answers .exit)) (now (store .exit)) (now (scratch .exit))) (numbers (now (stop .exit)) (now (steps .exit)) (now («answer_count» .exit)) (now (pending .exit)) (now (parked .exit))) ⌝ }
+    ensures { λ r. ⌜ Called (now (deck .entry)) (now (query .entry)) budget (slices (now (answers .entry)) (now (store .entry)) (now (scratch .entry))) (numbers (now (stop .entry)) (now (steps .entry)) (now (cost .entry)) (now («answer_count» .entry)) (now (pending .entry)) (now (parked .entry))) r (slices (now (answers .exit)) (now (store .exit)) (now (scratch .exit))) (numbers (now (stop .exit)) (now (steps .exit)) (now (cost .exit)) (now («answer_count» .exit)) (now (pending .exit)) (now (parked .exit))) ⌝ }
 {
     let ran = evaluation::run(deck, query, budget, answers, store, scratch);
-    told(ran, stop, steps, answer_count, pending, parked)
+    told(ran, stop, steps, cost, answer_count, pending, parked)
 }
 
 #[no_mangle]
@@ -57,11 +58,12 @@ pub extern "C" fn leads_continue(
     scratch: &mut [u16],
     stop: &mut u32,
     steps: &mut u32,
+    cost: &mut u32,
     answer_count: &mut u64,
     pending_after: &mut u32,
     parked_after: &mut u32,
 ) -> u32
-    ensures { λ r. ⌜ CalledOn (now (deck .entry)) pending parked terms budget (slices (now (answers .entry)) (now (store .entry)) (now (scratch .entry))) (numbers (now (stop .entry)) (now (steps .entry)) (now («answer_count» .entry)) (now («pending_after» .entry)) (now («parked_after» .entry))) r (slices (now (answers .exit)) (now (store .exit)) (now (scratch .exit))) (numbers (now (stop .exit)) (now (steps .exit)) (now («answer_count» .exit)) (now («pending_after» .exit)) (now («parked_after» .exit))) ⌝ }
+    ensures { λ r. ⌜ CalledOn (now (deck .entry)) pending parked terms budget (slices (now (answers .entry)) (now (store .entry)) (now (scratch .entry))) (numbers (now (stop .entry)) (now (steps .entry)) (now (cost .entry)) (now («answer_count» .entry)) (now («pending_after» .entry)) (now («parked_after» .entry))) r (slices (now (answers .exit)) (now (store .exit)) (now (scratch .exit))) (numbers (now (stop .exit)) (now (steps .exit)) (now (cost .exit)) (now («answer_count» .exit)) (now («pending_after» .exit)) (now («parked_after» .exit))) ⌝ }
 {
     let ran = evaluation::carry::carry_on(
         deck,
@@ -73,7 +75,15 @@ pub extern "C" fn leads_continue(
         store,
         scratch,
     );
-    told(ran, stop, steps, answer_count, pending_after, parked_after)
+    told(
+        ran,
+        stop,
+        steps,
+        cost,
+        answer_count,
+        pending_after,
+        parked_after,
+    )
 }
 
 // The number of a refusal, with the numbers as they were; or 0, with the report's.
@@ -81,11 +91,12 @@ fn told(
     ran: Ran,
     stop: &mut u32,
     steps: &mut u32,
+    cost: &mut u32,
     answer_count: &mut u64,
     pending: &mut u32,
     parked: &mut u32,
 ) -> u32
-    ensures { λ r. ⌜ Tells (resultOf ran) (numbers (now (stop .entry)) (now (steps .entry)) (now («answer_count» .entry)) (now (pending .entry)) (now (parked .entry))) r (numbers (now (stop .exit)) (now (steps .exit)) (now («answer_count» .exit)) (now (pending .exit)) (now (parked .exit))) ⌝ }
+    ensures { λ r. ⌜ Tells (resultOf ran) (numbers (now (stop .entry)) (now (steps .entry)) (now (cost .entry)) (now («answer_count» .entry)) (now (pending .entry)) (now (parked .entry))) r (numbers (now (stop .exit)) (now (steps .exit)) (now (cost .exit)) (now («answer_count» .exit)) (now (pending .exit)) (now (parked .exit))) ⌝ }
 {
     match ran {
         Ran::Refused(why) => deck::number(Checked::Refused(why)),
@@ -93,6 +104,7 @@ fn told(
             let why = report.stop;
             *stop = report::stop_number(why);
             *steps = report.steps;
+            *cost = report.cost;
             *answer_count = report.answers;
             *pending = report.pending;
             *parked = report.parked;

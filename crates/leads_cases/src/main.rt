@@ -18,7 +18,7 @@ fn main() {
 fn case(file: i32) {
     let mut deck = [0u8; 32772];
     let mut query = [0u8; 1004];
-    let mut out = [0u8; 65594];
+    let mut out = [0u8; 65605];
     title(file);
     let present = number(file) != 0;
     let d = input(file, &mut deck);

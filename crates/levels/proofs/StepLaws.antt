@@ -1,6 +1,6 @@
 -- A step on the first pending goal, by what is done with it: how the evaluation goes on, whatever the level and its place, or that it stops.
 use Prim.Native.Nat.{ℕ, suc, _+_, _-_, _≤_, _<_}
-use mathlib.Core.Path.{_≡_, refl, _∙_, ap}
+use mathlib.Core.Path.{_≡_, refl, _∙_, ap, ap₂}
 use mathlib.Core.Bool.{true, false}
 use mathlib.Core.List.{List, [], _∷_, _++_}
 use native.Mathlib.Omega.{arith}
@@ -8,10 +8,11 @@ use borrow.Author.Tests.{le-leb, lt-leb}
 use Rattle.rules.specs.Terms.{Terms}
 use Rattle.rules.specs.Syntax.{Literal, Clause, Goal}
 use Rattle.rules.specs.Goals.{Mark, floundered, oversized, deep, undecided, marked, goalWords, wordsOf}
-use Rattle.rules.specs.Resolution.{Selection, nothing, positive, negative, select, resolvents, anyOversized}
-use Rattle.rules.specs.Evaluation.{Stop, store, Level, startLevel, withPending, withParked, Place, zeroth, deeper, held, Act, noLiterals, park, derive, decide, deriveAct, decideAct, selectedAct, literalsAct, actOf, question, Next, halt, step, ask, answerStep, actStep, unlessOver, checkStore, succeeded, ended, Verdict, succeeds, fails, unsettled, interrupted, reply, close, decideBy, evaluateLevel, nextFrom, nextOf}
+use Rattle.rules.specs.Resolution.{Selection, nothing, positive, negative, select, resolvents, anyOversized, selectedCost, costOf}
+use Rattle.rules.specs.Evaluation.{Stop, budget, store, Level, startLevel, withPending, withParked, Place, zeroth, deeper, held, Act, noLiterals, park, derive, decide, deriveAct, decideAct, selectedAct, literalsAct, actOf, question, Next, halt, step, ask, answerStep, actStep, unlessOver, checkStore, Account, pay, succeeded, ended, Verdict, succeeds, fails, unsettled, interrupted, reply, close, decideBy, evaluateLevel, nextFrom, nextOf}
 use Rattle.rules.proofs.GoalLaws.{markedWords-append}
-use Rattle.rules.proofs.LevelLaws.{level-halts, level-steps, level-asks, level-succeeds}
+use Rattle.rules.proofs.NextLaws.{first-cost}
+use Rattle.rules.proofs.LevelLaws.{level-halts, level-steps, level-asks, level-succeeds, level-unpaid}
 use Rattle.goals.specs.Store.{atomGoal}
 use Rattle.levels.specs.Levels.{outside, Stands, Onward, Halts, Decides}
 
@@ -94,92 +95,106 @@ over : (storeSize words : ℕ) (n : Next) → storeSize < words → unlessOver s
 unfolding unlessOver
 over storeSize words n h = rw (lt-leb words storeSize h, unlessOver)
 
--- THE STEP, where `steps` of the budget are used
-module _ (clauses : List Clause) (below room : ℕ) (g : Goal) (gs : List Goal) (budget steps : ℕ) (pays : steps < budget) where
-  pub next-is : (answerRoom storeSize : ℕ) (at : Place) (l : Level) → l .pending ≡ g ∷ gs → (a : Act) → actOf clauses below g ≡ a
-      → nextOf clauses answerRoom storeSize below at l (budget - steps) ≡ checkStore storeSize at (actStep answerRoom at l g gs a)
-  unfolding nextOf nextFrom
-  next-is answerRoom storeSize at l p a e = let n : budget - steps ≡ suc (budget - (steps + 1)) = omega arith in rw (p, n, e)
+-- WHAT A STEP COSTS
+pub cost-is : (clauses : List Clause) (g : Goal) (s : Selection) → select (g .literals) ≡ s → costOf clauses g ≡ selectedCost clauses g s
+unfolding costOf
+cost-is clauses g s e = ap (selectedCost clauses g) e
 
-  pub one-less : budget - steps - 1 ≡ budget - (steps + 1)
-  one-less = omega arith
+-- b is the account a after a step on g, whose whole cost is left.
+pub record Pays (clauses : List Clause) (g : Goal) (a b : Account) : Type 0 where
+  pub left : costOf clauses g + b .left ≡ a .left
+  pub steps : b .steps ≡ a .steps + 1
+
+account-is : (a b : Account) → a .left ≡ b .left → a .steps ≡ b .steps → a ≡ b
+account-is a b e f = ap₂ (λ (x y : ℕ). record { left = x; steps = y }) e f
+
+-- THE STEP
+module _ (clauses : List Clause) (below room : ℕ) (g : Goal) (gs : List Goal) (a b : Account) (pays : Pays clauses g a b) where
+  pub next-is : (answerRoom storeSize : ℕ) (at : Place) (l : Level) → l .pending ≡ g ∷ gs → (act : Act) → actOf clauses below g ≡ act
+      → nextOf clauses answerRoom storeSize below at l (a .left) ≡ checkStore storeSize at (actStep answerRoom at l g gs act)
+  unfolding nextOf nextFrom
+  next-is answerRoom storeSize at l p act e = rw (p, le-leb (costOf clauses g) (a .left) (omega (arith, pays .left)), nextFrom, e)
+
+  pub paid : (l : Level) → l .pending ≡ g ∷ gs → pay clauses l a ≡ b
+  paid l p = account-is (pay clauses l a) b (omega (arith, first-cost clauses l p, pays .left)) (omega (arith, pays .steps))
 
   -- No literals: a deeper level has succeeded.
   pub answered : (answerRoom storeSize outer : ℕ) (l : Level) → l .pending ≡ g ∷ gs → g .literals ≡ []
-      → evaluateLevel clauses answerRoom storeSize below (deeper outer) l (budget - steps) ≡ ended succeeded l (budget - (steps + 1))
+      → evaluateLevel clauses answerRoom storeSize below (deeper outer) l a ≡ ended succeeded l b
   unfolding checkStore actStep answerStep
   answered answerRoom storeSize outer l p e =
-      level-succeeds clauses answerRoom storeSize below (deeper outer) l (budget - steps) (next-is answerRoom storeSize (deeper outer) l p noLiterals (bare clauses below g e))
-      ∙ rw one-less
+      level-succeeds clauses answerRoom storeSize below (deeper outer) l a (next-is answerRoom storeSize (deeper outer) l p noLiterals (bare clauses below g e))
+      ∙ ap (ended succeeded l) (paid l p)
 
-  pub parks : (m : Mark) → actOf clauses below g ≡ park m → goalWords g + wordsOf gs ≤ room
-      → Onward clauses below room (g ∷ gs) (budget - steps) (withParked m g gs) (budget - (steps + 1))
+  pub parks : (m : Mark) → actOf clauses below g ≡ park m → goalWords g + wordsOf gs ≤ room → Onward clauses below room (g ∷ gs) a (withParked m g gs) b
   unfolding checkStore actStep
-  parks m a f answerRoom storeSize at l s =
-      level-steps clauses answerRoom storeSize below at l (budget - steps) (withParked m g gs l)
-      (next-is answerRoom storeSize at l (s .pending) (park m) a
+  parks m e f answerRoom storeSize at l s =
+      level-steps clauses answerRoom storeSize below at l a (withParked m g gs l)
+      (next-is answerRoom storeSize at l (s .pending) (park m) e
       ∙ within storeSize (held at (withParked m g gs l)) (step (withParked m g gs l)) (omega (arith, held-parked at l m g gs, s .room)))
-      ∙ rw one-less
+      ∙ ap (evaluateLevel clauses answerRoom storeSize below at (withParked m g gs l)) (paid l (s .pending))
 
-  module _ (ds : List Goal) (a : actOf clauses below g ≡ derive ds) where
-    pub replaces : wordsOf (ds ++ gs) ≤ room → Onward clauses below room (g ∷ gs) (budget - steps) (withPending (ds ++ gs)) (budget - (steps + 1))
+  module _ (ds : List Goal) (e : actOf clauses below g ≡ derive ds) where
+    pub replaces : wordsOf (ds ++ gs) ≤ room → Onward clauses below room (g ∷ gs) a (withPending (ds ++ gs)) b
     unfolding checkStore actStep
     replaces f answerRoom storeSize at l s =
-        level-steps clauses answerRoom storeSize below at l (budget - steps) (withPending (ds ++ gs) l)
-        (next-is answerRoom storeSize at l (s .pending) (derive ds) a
+        level-steps clauses answerRoom storeSize below at l a (withPending (ds ++ gs) l)
+        (next-is answerRoom storeSize at l (s .pending) (derive ds) e
         ∙ within storeSize (held at (withPending (ds ++ gs) l)) (step (withPending (ds ++ gs) l)) (omega (arith, held-replaced at l (ds ++ gs), s .room)))
-        ∙ rw one-less
+        ∙ ap (evaluateLevel clauses answerRoom storeSize below at (withPending (ds ++ gs) l)) (paid l (s .pending))
 
-    pub overfills : room < wordsOf (ds ++ gs) → Halts clauses below room (g ∷ gs) (budget - steps) store (budget - steps)
+    pub overfills : room < wordsOf (ds ++ gs) → Halts clauses below room (g ∷ gs) a store a
     unfolding checkStore actStep
     overfills f answerRoom storeSize at l s =
-        level-halts clauses answerRoom storeSize below at l (budget - steps) store
-        (next-is answerRoom storeSize at l (s .pending) (derive ds) a
+        level-halts clauses answerRoom storeSize below at l a store
+        (next-is answerRoom storeSize at l (s .pending) (derive ds) e
         ∙ over storeSize (held at (withPending (ds ++ gs) l)) (step (withPending (ds ++ gs) l)) (omega (arith, held-replaced at l (ds ++ gs), s .room)))
 
+-- The step's cost is not left.
+pub unpaid : (clauses : List Clause) (below room : ℕ) (g : Goal) (gs : List Goal) (a : Account) → a .left < costOf clauses g → Halts clauses below room (g ∷ gs) a budget a
+unpaid clauses below room g gs a c answerRoom storeSize at l s = level-unpaid clauses answerRoom storeSize below at l a g gs (s .pending) c
+
 -- A step that asks.
-module _ (clauses : List Clause) (below room : ℕ) (g : Goal) (gs : List Goal) (budget steps : ℕ) (pays : steps < budget)
-    (p : ℕ) (ts : Terms) (others : List Literal) (a : actOf clauses (suc below) g ≡ decide p ts others) where
-  pub crowds : room < goalWords g + wordsOf gs + goalWords (atomGoal p ts)
-      → Halts clauses (suc below) room (g ∷ gs) (budget - steps) store (budget - steps)
+module _ (clauses : List Clause) (below room : ℕ) (g : Goal) (gs : List Goal) (a b : Account) (pays : Pays clauses g a b)
+    (p : ℕ) (ts : Terms) (others : List Literal) (e : actOf clauses (suc below) g ≡ decide p ts others) where
+  pub crowds : room < goalWords g + wordsOf gs + goalWords (atomGoal p ts) → Halts clauses (suc below) room (g ∷ gs) a store a
   unfolding checkStore actStep question
   crowds f answerRoom storeSize at l s =
-      level-halts clauses answerRoom storeSize (suc below) at l (budget - steps) store
-      (next-is clauses (suc below) room g gs budget steps pays answerRoom storeSize at l (s .pending) (decide p ts others) a
+      level-halts clauses answerRoom storeSize (suc below) at l a store
+      (next-is clauses (suc below) room g gs a b pays answerRoom storeSize at l (s .pending) (decide p ts others) e
       ∙ over storeSize (held at l + goalWords (atomGoal p ts)) (ask (question at l g gs p ts others))
       (omega (arith, held-outside at l (g ∷ gs) (s .pending), s .room)))
 
-  module _ (fits : goalWords g + wordsOf gs + goalWords (atomGoal p ts) ≤ room) (v : Verdict) (left : ℕ)
-      (says : Decides clauses below (room - (goalWords g + wordsOf gs)) (atomGoal p ts ∷ []) (budget - (steps + 1)) v left) where
+  module _ (fits : goalWords g + wordsOf gs + goalWords (atomGoal p ts) ≤ room) (v : Verdict) (after : Account)
+      (says : Decides clauses below (room - (goalWords g + wordsOf gs)) (atomGoal p ts ∷ []) b v after) where
     closes : (answerRoom storeSize : ℕ) (at : Place) (l : Level) → Stands at l (g ∷ gs) room storeSize
-        → evaluateLevel clauses answerRoom storeSize (suc below) at l (budget - steps)
-        ≡ close (evaluateLevel clauses answerRoom storeSize (suc below) at) l (question at l g gs p ts others) (reply v left)
+        → evaluateLevel clauses answerRoom storeSize (suc below) at l a
+        ≡ close (evaluateLevel clauses answerRoom storeSize (suc below) at) l (question at l g gs p ts others) (reply v after)
     unfolding checkStore actStep question decideBy startLevel
     closes answerRoom storeSize at l s =
         let h = held-outside at l (g ∷ gs) (s .pending) in
-        level-asks clauses answerRoom storeSize (suc below) at l (budget - steps) (question at l g gs p ts others)
-        (next-is clauses (suc below) room g gs budget steps pays answerRoom storeSize at l (s .pending) (decide p ts others) a
+        level-asks clauses answerRoom storeSize (suc below) at l a (question at l g gs p ts others)
+        (next-is clauses (suc below) room g gs a b pays answerRoom storeSize at l (s .pending) (decide p ts others) e
         ∙ within storeSize (held at l + goalWords (atomGoal p ts)) (ask (question at l g gs p ts others)) (omega (arith, s .room)))
-        ∙ rw (one-less clauses (suc below) room g gs budget steps pays, says answerRoom storeSize (held at l) (omega (arith, s .room)))
+        ∙ rw (paid clauses (suc below) room g gs a b pays l (s .pending), says answerRoom storeSize (held at l) (omega (arith, s .room)))
 
   -- By what the new level says.
-  module _ (fits : goalWords g + wordsOf gs + goalWords (atomGoal p ts) ≤ room) (left : ℕ) where
+  module _ (fits : goalWords g + wordsOf gs + goalWords (atomGoal p ts) ≤ room) (after : Account) where
     abbrev Says : Verdict → Type 0
-    Says v = Decides clauses below (room - (goalWords g + wordsOf gs)) (atomGoal p ts ∷ []) (budget - (steps + 1)) v left
+    Says v = Decides clauses below (room - (goalWords g + wordsOf gs)) (atomGoal p ts ∷ []) b v after
 
-    pub proves : Says succeeds → Onward clauses (suc below) room (g ∷ gs) (budget - steps) (withPending gs) left
+    pub proves : Says succeeds → Onward clauses (suc below) room (g ∷ gs) a (withPending gs) after
     unfolding close question
-    proves d answerRoom storeSize at l s = closes fits succeeds left d answerRoom storeSize at l s
+    proves d answerRoom storeSize at l s = closes fits succeeds after d answerRoom storeSize at l s
 
-    pub disproves : Says fails
-        → Onward clauses (suc below) room (g ∷ gs) (budget - steps) (withPending (record { answers = g .answers; literals = others } ∷ gs)) left
+    pub disproves : Says fails → Onward clauses (suc below) room (g ∷ gs) a (withPending (record { answers = g .answers; literals = others } ∷ gs)) after
     unfolding close question
-    disproves d answerRoom storeSize at l s = closes fits fails left d answerRoom storeSize at l s
+    disproves d answerRoom storeSize at l s = closes fits fails after d answerRoom storeSize at l s
 
-    pub unsettles : Says unsettled → Onward clauses (suc below) room (g ∷ gs) (budget - steps) (withParked undecided g gs) left
+    pub unsettles : Says unsettled → Onward clauses (suc below) room (g ∷ gs) a (withParked undecided g gs) after
     unfolding close question
-    unsettles d answerRoom storeSize at l s = closes fits unsettled left d answerRoom storeSize at l s
+    unsettles d answerRoom storeSize at l s = closes fits unsettled after d answerRoom storeSize at l s
 
-    pub interrupts : (s : Stop) → Says (interrupted s) → Halts clauses (suc below) room (g ∷ gs) (budget - steps) s left
+    pub interrupts : (s : Stop) → Says (interrupted s) → Halts clauses (suc below) room (g ∷ gs) a s after
     unfolding close
-    interrupts t d answerRoom storeSize at l s = closes fits (interrupted t) left d answerRoom storeSize at l s
+    interrupts t d answerRoom storeSize at l s = closes fits (interrupted t) after d answerRoom storeSize at l s

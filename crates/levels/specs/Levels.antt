@@ -14,17 +14,29 @@ use Rattle.rules.specs.Resolution.{negative, select}
 use Rattle.rules.specs.WellFormed.{WfLiteral}
 use Rattle.rules.specs.Evaluation as rules
 use Rattle.report.specs.Reports.{stopOf}
-use Rattle.report.specs.declared.Stop.the-variants.{Store}
+use Rattle.report.specs.declared.Stop.the-variants.{Budget, Store}
 use Rattle.resolvents.specs.Selecting.{Spans}
 use Rattle.goals.specs.Store.{Holding, atomGoal, markOf}
 use Rattle.goals.specs.declared.Mark.the-variants as marks
 use Rattle.derivation.specs.declared.Derived.{Derived}
-use Rattle.derivation.specs.declared.Derived.the-variants.{Words, Oversized, NoRoom}
+use Rattle.derivation.specs.declared.Derived.the-variants.{Words, Oversized, NoRoom, Unpaid}
+use Rattle.levels.specs.declared.Account.{Account}
 use Rattle.levels.specs.declared.Turn.{Turn}
 use Rattle.levels.specs.declared.Turn.the-variants.{Empty, Park, More, Stopped}
 use Rattle.levels.specs.declared.Verdict.{Verdict}
 use Rattle.levels.specs.declared.Verdict.the-variants.{Succeeds, Fails, Unsettled, Interrupted}
 use Rattle.levels.specs.declared.Reply.{Reply}
+
+abbrev pub accountOf : Account → rules.Account
+accountOf a = record { left = a .left; steps = a .steps }
+
+-- The account after a step that costs 1.
+abbrev pub paidOne : Account → Account
+paidOne a = record { left = a .left - 1; steps = a .steps + 1 }
+
+-- An account later than another: no more is left, and each step between them has cost 1 at least.
+abbrev pub Later : Account → Account → Type 0
+Later a b = (b .left ≤ a .left) × (b .steps + b .left ≤ a .steps + a .left)
 
 -- The words held outside a level's pending goals.
 abbrev pub outside : rules.Place → rules.Level → ℕ
@@ -37,29 +49,29 @@ pub record Stands (at : rules.Place) (l : rules.Level) (gs : List Goal) (words s
   pub room : outside at l + words ≡ storeSize
 
 -- Whatever the level, its place and the sizes: the evaluation goes on as from the changed level.
-abbrev pub Onward : List Clause → ℕ → ℕ → List Goal → ℕ → (rules.Level → rules.Level) → ℕ → Type 0
-Onward clauses below room gs left change left′ =
+abbrev pub Onward : List Clause → ℕ → ℕ → List Goal → rules.Account → (rules.Level → rules.Level) → rules.Account → Type 0
+Onward clauses below room gs a change b =
     (answerRoom storeSize : ℕ) (at : rules.Place) (l : rules.Level) → Stands at l gs room storeSize
-    → rules.evaluateLevel clauses answerRoom storeSize below at l left ≡ rules.evaluateLevel clauses answerRoom storeSize below at (change l) left′
+    → rules.evaluateLevel clauses answerRoom storeSize below at l a ≡ rules.evaluateLevel clauses answerRoom storeSize below at (change l) b
 
 -- Whatever they are: the evaluation stops with the level as it stands.
-abbrev pub Halts : List Clause → ℕ → ℕ → List Goal → ℕ → rules.Stop → ℕ → Type 0
-Halts clauses below room gs left stop left′ =
+abbrev pub Halts : List Clause → ℕ → ℕ → List Goal → rules.Account → rules.Stop → rules.Account → Type 0
+Halts clauses below room gs a stop b =
     (answerRoom storeSize : ℕ) (at : rules.Place) (l : rules.Level) → Stands at l gs room storeSize
-    → rules.evaluateLevel clauses answerRoom storeSize below at l left ≡ rules.ended (rules.stopped stop) l left′
+    → rules.evaluateLevel clauses answerRoom storeSize below at l a ≡ rules.ended (rules.stopped stop) l b
 
 -- What a step on g, with gs after it, came to. The first `held` words of the store are as they were unless it goes on with other goals.
-abbrev pub Turned : Deck → ℕ → List ℕ → ℕ → ℕ → ℕ → Goal → List Goal → List ℕ → Turn → Type 0
-Turned d below store held budget steps g gs store′ Empty = (g .literals ≡ []) × (take held store′ ≡ take held store)
-Turned d below store held budget steps g gs store′ (Park m k) =
-    (steps < k) × (k ≤ budget) × (take held store′ ≡ take held store)
-    × Onward (d .clauses) below (length store) (g ∷ gs) (budget - steps) (rules.withParked (markOf m) g gs) (budget - k)
-Turned d below store held budget steps g gs store′ (More h k) =
-    (steps < k) × (k ≤ budget)
-    × ((hs : List Goal) × Holding (d .symbols) store′ h hs × Onward (d .clauses) below (length store) (g ∷ gs) (budget - steps) (rules.withPending hs) (budget - k))
-Turned d below store held budget steps g gs store′ (Stopped s k) =
-    (steps ≤ k) × (k ≤ budget) × (take held store′ ≡ take held store)
-    × Halts (d .clauses) below (length store) (g ∷ gs) (budget - steps) (stopOf s) (budget - k)
+abbrev pub Turned : Deck → ℕ → List ℕ → ℕ → Account → Goal → List Goal → List ℕ → Turn → Type 0
+Turned d below store held a g gs store′ Empty = (g .literals ≡ []) × (take held store′ ≡ take held store)
+Turned d below store held a g gs store′ (Park m b) =
+    (b .left < a .left) × Later a b × (take held store′ ≡ take held store)
+    × Onward (d .clauses) below (length store) (g ∷ gs) (accountOf a) (rules.withParked (markOf m) g gs) (accountOf b)
+Turned d below store held a g gs store′ (More h b) =
+    (b .left < a .left) × Later a b
+    × ((hs : List Goal) × Holding (d .symbols) store′ h hs × Onward (d .clauses) below (length store) (g ∷ gs) (accountOf a) (rules.withPending hs) (accountOf b))
+Turned d below store held a g gs store′ (Stopped s b) =
+    Later a b × (take held store′ ≡ take held store)
+    × Halts (d .clauses) below (length store) (g ∷ gs) (accountOf a) (stopOf s) (accountOf b)
 
 abbrev pub verdictFor : Verdict → rules.Verdict
 verdictFor Succeeds = rules.succeeds
@@ -73,16 +85,15 @@ finishedBy true = rules.unsettled
 finishedBy false = rules.fails
 
 -- A deeper level on the goals gs with `room` words of the store, whatever is held outside it.
-abbrev pub Decides : List Clause → ℕ → ℕ → List Goal → ℕ → rules.Verdict → ℕ → Type 0
-Decides clauses below room gs left verdict left′ =
+abbrev pub Decides : List Clause → ℕ → ℕ → List Goal → rules.Account → rules.Verdict → rules.Account → Type 0
+Decides clauses below room gs a verdict b =
     (answerRoom storeSize outer : ℕ) → outer + room ≡ storeSize
-    → rules.replyOf (rules.evaluateLevel clauses answerRoom storeSize below (rules.deeper outer) (record { pending = gs; parked = []; answers = [] }) left)
-    ≡ rules.reply verdict left′
+    → rules.replyOf (rules.evaluateLevel clauses answerRoom storeSize below (rules.deeper outer) (record { pending = gs; parked = []; answers = [] }) a)
+    ≡ rules.reply verdict b
 
-pub record Replied (d : Deck) (below room : ℕ) (gs : List Goal) (budget steps : ℕ) (r : Reply) : Type 0 where
-  pub later : steps ≤ r .used
-  pub within : r .used ≤ budget
-  pub decides : Decides (d .clauses) below room gs (budget - steps) (verdictFor (r .verdict)) (budget - r .used)
+pub record Replied (d : Deck) (below room : ℕ) (gs : List Goal) (a : Account) (r : Reply) : Type 0 where
+  pub later : Later a (r .account)
+  pub decides : Decides (d .clauses) below room gs (accountOf a) (verdictFor (r .verdict)) (accountOf (r .account))
 
 -- The cells from s up to e are those of the negative literal not p(ts), which has no variables.
 pub record Asking (row : List ℕ) (s e : ℕ) (S : List Symbol) (p : ℕ) (ts : Terms) : Type 0 where
@@ -133,14 +144,15 @@ pub record SomeNegating (deckWords store row : List ℕ) (held s e : ℕ) : Type
   pub after : List Literal
   pub is : Negating deckWords store row held s e deck first goals before predicate terms after
 
--- With a step, a new level past the words held, which has room for the goal of p(ts), gave the reply.
-pub record Asked (d : Deck) (below : ℕ) (store : List ℕ) (held budget steps p : ℕ) (ts : Terms) (r : Reply) : Type 0 where
-  pub pays : steps < budget
+-- With a step paid, a new level past the words held, which has room for the goal of p(ts), gave the reply.
+pub record Asked (d : Deck) (below : ℕ) (store : List ℕ) (held : ℕ) (a : Account) (p : ℕ) (ts : Terms) (r : Reply) : Type 0 where
+  pub pays : 0 < a .left
   pub fits : held + goalWords (atomGoal p ts) ≤ length store
-  pub replied : Replied d below (length store - held) (atomGoal p ts ∷ []) budget (steps + 1) r
+  pub replied : Replied d below (length store - held) (atomGoal p ts ∷ []) (paidOne a) r
 
 -- A step on a positive literal, by what became of the derived goals.
-abbrev pub expandedTo : Derived → ℕ → Turn
-expandedTo (Words end) steps = More end (steps + 1)
-expandedTo Oversized steps = Park marks.Oversized (steps + 1)
-expandedTo NoRoom steps = Stopped Store steps
+abbrev pub expandedTo : Derived → Account → Turn
+expandedTo (Words end left) a = More end (record { left = left; steps = a .steps + 1 })
+expandedTo (Oversized left) a = Park marks.Oversized (record { left = left; steps = a .steps + 1 })
+expandedTo NoRoom a = Stopped Store a
+expandedTo Unpaid a = Stopped Budget a

@@ -10,7 +10,7 @@ ghost use Rattle.rules.specs.Decks.{openDeck};
 ghost use Rattle.resolvents.specs.Deriving.{Rows};
 ghost use Rattle.goals.specs.Store.{Holding, SomeHolding, SomeFirst, atomGoal};
 ghost use Rattle.clauses.specs.Clauses.{Indexed};
-ghost use Rattle.levels.specs.Levels.{Turned, Replied, Asking, SomeDecision, Negates, SomeNegates, Negating, SomeNegating, Asked, expandedTo, verdictFor, finishedBy};
+ghost use Rattle.levels.specs.Levels.{paidOne, Turned, Replied, Asking, SomeDecision, Negates, SomeNegates, Negating, SomeNegating, Asked, expandedTo, verdictFor, finishedBy};
 use deck::parts;
 use derivation::Derived;
 use derivation::derive;
@@ -23,13 +23,19 @@ use resolvents::select::Selected;
 use resolvents::select::select_literal;
 use words::wide;
 
-// What a step came to, with the steps used so far: the goal has no literals (the step is not taken here); it is to be parked;
+// What is left of the budget, and the steps taken so far, over all levels.
+pub struct Account {
+    pub left: u32,
+    pub steps: u32,
+}
+
+// What a step came to, with the account after it: the goal has no literals (the step is not taken here); it is to be parked;
 // the goals held now; or the run stops.
 pub enum Turn {
     Empty,
-    Park(Mark, u32),
-    More(usize, u32),
-    Stopped(Stop, u32),
+    Park(Mark, Account),
+    More(usize, Account),
+    Stopped(Stop, Account),
 }
 
 // What a new level says of its atom.
@@ -42,13 +48,17 @@ pub enum Verdict {
 
 pub struct Reply {
     pub verdict: Verdict,
-    pub used: u32,
+    pub account: Account,
 }
 
-// The budget, and the steps used so far over all levels.
-pub struct Steps {
-    pub budget: u32,
-    pub used: u32,
+// A step that costs 1.
+pub fn pay_one(account: Account) -> Account
+    requires { ⌜ (0 < account .left) × (account .steps < 4294967295) ⌝ }
+    ensures { λ r. ⌜ r ≡ paidOne account ⌝ }
+{
+    let left = account.left - 1;
+    let steps = account.steps + 1;
+    Account { left, steps }
 }
 
 // One step on the first goal of the words held.
@@ -57,7 +67,7 @@ pub fn take_step(
     below: usize,
     store: &mut [u16],
     held: usize,
-    steps: Steps,
+    account: Account,
     cells: &mut [u16],
     table: &mut [u16],
     draft: &mut [u16],
@@ -65,8 +75,8 @@ pub fn take_step(
 ) -> Turn
     requires { ⌜ SomeFirst (now deck) (now store) held ⌝ }
     requires { ⌜ Rows (now table) (now draft) ⌝ }
-    requires { ⌜ (8192 ≤ length (now cells)) × (steps .used < steps .budget) × Indexed (now deck) (now index) ⌝ }
-    ensures { λ r. ⌜ ((d : Deck) (g : Goal) (gs : List Goal) → openDeck (now (deck .entry)) ≡ accepted d → Holding (d .symbols) (now (store .entry)) held (g ∷ gs) → Turned d below (now (store .entry)) held (steps .budget) (steps .used) g gs (now (store .exit)) r) ⌝ }
+    requires { ⌜ (8192 ≤ length (now cells)) × (0 < account .left) × (account .steps + account .left < 4294967296) × Indexed (now deck) (now index) ⌝ }
+    ensures { λ r. ⌜ ((d : Deck) (g : Goal) (gs : List Goal) → openDeck (now (deck .entry)) ≡ accepted d → Holding (d .symbols) (now (store .entry)) held (g ∷ gs) → Turned d below (now (store .entry)) held account g gs (now (store .exit)) r) ⌝ }
     ensures { λ _. ⌜ Rows (now (table .exit)) (now (draft .exit)) ⌝ }
 {
     let length = wide(store[held - 1]);
@@ -76,14 +86,25 @@ pub fn take_step(
         return Turn::Empty;
     }
     words::copy_mirrored(store, held - 2, len, cells, 0);
-    let used = steps.used;
     match select_literal(&cells[0..len], parts::symbols(deck), answers) {
-        Selected::Nothing => Turn::Park(Mark::Floundered, used + 1),
+        Selected::Nothing => Turn::Park(Mark::Floundered, pay_one(account)),
         Selected::Positive(s, e) => {
             let base = held - length;
             let call = Call { len, answers, s, e };
-            let derived = derive(deck, store, base, held, call, cells, table, draft, index);
-            expanded(derived, used)
+            let left = account.left;
+            let derived = derive(
+                deck,
+                store,
+                base,
+                held,
+                call,
+                left,
+                cells,
+                table,
+                draft,
+                index,
+            );
+            expanded(derived, account)
         }
         Selected::Negative(s, e) => {
             let call = Call { len, answers, s, e };
@@ -93,7 +114,7 @@ pub fn take_step(
                 store,
                 held,
                 call,
-                steps,
+                account,
                 cells,
                 table,
                 draft,
@@ -104,14 +125,22 @@ pub fn take_step(
 }
 
 // A step on a selected positive literal, by what became of the derived goals.
-fn expanded(derived: Derived, steps: u32) -> Turn
-    requires { ⌜ steps < 4294967295 ⌝ }
-    ensures { λ r. ⌜ r ≡ expandedTo derived steps ⌝ }
+fn expanded(derived: Derived, account: Account) -> Turn
+    requires { ⌜ account .steps < 4294967295 ⌝ }
+    ensures { λ r. ⌜ r ≡ expandedTo derived account ⌝ }
 {
+    let taken = account.steps;
     match derived {
-        Derived::Words(end) => Turn::More(end, steps + 1),
-        Derived::Oversized => Turn::Park(Mark::Oversized, steps + 1),
-        Derived::NoRoom => Turn::Stopped(Stop::Store, steps),
+        Derived::Words(end, left) => {
+            let steps = taken + 1;
+            Turn::More(end, Account { left, steps })
+        }
+        Derived::Oversized(left) => {
+            let steps = taken + 1;
+            Turn::Park(Mark::Oversized, Account { left, steps })
+        }
+        Derived::NoRoom => Turn::Stopped(Stop::Store, account),
+        Derived::Unpaid => Turn::Stopped(Stop::Budget, account),
     }
 }
 
@@ -122,7 +151,7 @@ fn negate(
     store: &mut [u16],
     held: usize,
     call: Call,
-    steps: Steps,
+    account: Account,
     cells: &mut [u16],
     table: &mut [u16],
     draft: &mut [u16],
@@ -130,23 +159,19 @@ fn negate(
 ) -> Turn
     requires { ⌜ SomeNegating (now deck) (now store) (now cells) held (call .s) (call .e) ⌝ }
     requires { ⌜ Rows (now table) (now draft) ⌝ }
-    requires { ⌜ (8192 ≤ length (now cells)) × (steps .used < steps .budget) × Indexed (now deck) (now index) ⌝ }
-    ensures { λ r. ⌜ ((d : Deck) (g : Goal) (gs : List Goal) (before : List Literal) (p : ℕ) (ts : Terms) (after : List Literal) → Negating (now (deck .entry)) (now (store .entry)) (now (cells .entry)) held (call .s) (call .e) d g gs before p ts after → Turned d below (now (store .entry)) held (steps .budget) (steps .used) g gs (now (store .exit)) r) ⌝ }
+    requires { ⌜ (8192 ≤ length (now cells)) × (0 < account .left) × (account .steps + account .left < 4294967296) × Indexed (now deck) (now index) ⌝ }
+    ensures { λ r. ⌜ ((d : Deck) (g : Goal) (gs : List Goal) (before : List Literal) (p : ℕ) (ts : Terms) (after : List Literal) → Negating (now (deck .entry)) (now (store .entry)) (now (cells .entry)) held (call .s) (call .e) d g gs before p ts after → Turned d below (now (store .entry)) held account g gs (now (store .exit)) r) ⌝ }
     ensures { λ _. ⌜ Rows (now (table .exit)) (now (draft .exit)) ⌝ }
 {
     let s = call.s;
     let e = call.e;
-    let used = steps.used;
     if below == 0 {
-        return Turn::Park(Mark::Deep, used + 1);
+        return Turn::Park(Mark::Deep, pay_one(account));
     }
     if store.len() - held < e - s + 2 {
-        return Turn::Stopped(Stop::Store, used);
+        return Turn::Stopped(Stop::Store, account);
     }
-    let paid = Steps {
-        budget: steps.budget,
-        used: used + 1,
-    };
+    let paid = pay_one(account);
     let inner = decide(
         deck,
         below,
@@ -165,19 +190,19 @@ fn negate(
 // A step on a selected negative literal, by what a new level said of its atom.
 fn settle(store: &mut [u16], held: usize, s: usize, e: usize, inner: Reply) -> Turn
     requires { ⌜ SomeNegates (now store) held s e ⌝ }
-    ensures { λ r. ⌜ ((d : Deck) (g : Goal) (gs : List Goal) (before : List Literal) (p : ℕ) (ts : Terms) (after : List Literal) (below budget steps : ℕ) → Negates (d .symbols) (now (store .entry)) held s e g gs before p ts after → Asked d below (now (store .entry)) held budget steps p ts inner → Turned d (suc below) (now (store .entry)) held budget steps g gs (now (store .exit)) r) ⌝ }
+    ensures { λ r. ⌜ ((d : Deck) (g : Goal) (gs : List Goal) (before : List Literal) (p : ℕ) (ts : Terms) (after : List Literal) (below : ℕ) (account : Account) → Negates (d .symbols) (now (store .entry)) held s e g gs before p ts after → Asked d below (now (store .entry)) held account p ts inner → Turned d (suc below) (now (store .entry)) held account g gs (now (store .exit)) r) ⌝ }
 {
     let length = wide(store[held - 1]);
-    let steps = inner.used;
+    let after = inner.account;
     let verdict = inner.verdict;
     match verdict {
-        Verdict::Succeeds => Turn::More(held - length, steps),
+        Verdict::Succeeds => Turn::More(held - length, after),
         Verdict::Fails => {
             remove(store, held, s, e);
-            Turn::More(held - (e - s), steps)
+            Turn::More(held - (e - s), after)
         }
-        Verdict::Unsettled => Turn::Park(Mark::Undecided, steps),
-        Verdict::Interrupted(stop) => Turn::Stopped(stop, steps),
+        Verdict::Unsettled => Turn::Park(Mark::Undecided, after),
+        Verdict::Interrupted(stop) => Turn::Stopped(stop, after),
     }
 }
 
@@ -188,7 +213,7 @@ pub fn decide(
     store: &mut [u16],
     held: usize,
     call: Call,
-    steps: Steps,
+    account: Account,
     cells: &mut [u16],
     table: &mut [u16],
     draft: &mut [u16],
@@ -196,8 +221,8 @@ pub fn decide(
 ) -> Reply
     requires { ⌜ SomeDecision (now deck) (now cells) (call .s) (call .e) ⌝ }
     requires { ⌜ Rows (now table) (now draft) ⌝ }
-    requires { ⌜ (8192 ≤ length (now cells)) × (steps .used ≤ steps .budget) × (0 < below) × (held + (call .e - call .s) + 2 ≤ length (now store)) × Indexed (now deck) (now index) ⌝ }
-    ensures { λ r. ⌜ ((d : Deck) (p : ℕ) (ts : Terms) → openDeck (now (deck .entry)) ≡ accepted d → Asking (now (cells .entry)) (call .s) (call .e) (d .symbols) p ts → Replied d (below - 1) (length (now (store .entry)) - held) (atomGoal p ts ∷ []) (steps .budget) (steps .used) r) ⌝ }
+    requires { ⌜ (8192 ≤ length (now cells)) × (account .steps + account .left < 4294967296) × (0 < below) × (held + (call .e - call .s) + 2 ≤ length (now store)) × Indexed (now deck) (now index) ⌝ }
+    ensures { λ r. ⌜ ((d : Deck) (p : ℕ) (ts : Terms) → openDeck (now (deck .entry)) ≡ accepted d → Asking (now (cells .entry)) (call .s) (call .e) (d .symbols) p ts → Replied d (below - 1) (length (now (store .entry)) - held) (atomGoal p ts ∷ []) account r) ⌝ }
     ensures { λ _. ⌜ Rows (now (table .exit)) (now (draft .exit)) ⌝ }
     ensures { λ _. ⌜ take held (now (store .exit)) ≡ take held (now (store .entry)) ⌝ }
 {
@@ -207,7 +232,7 @@ pub fn decide(
         below - 1,
         &mut store[held..],
         n,
-        steps,
+        account,
         cells,
         table,
         draft,
@@ -221,7 +246,7 @@ pub fn level(
     below: usize,
     store: &mut [u16],
     start: usize,
-    steps: Steps,
+    account: Account,
     cells: &mut [u16],
     table: &mut [u16],
     draft: &mut [u16],
@@ -229,45 +254,57 @@ pub fn level(
 ) -> Reply
     requires { ⌜ SomeHolding (now deck) (now store) start ⌝ }
     requires { ⌜ Rows (now table) (now draft) ⌝ }
-    requires { ⌜ (8192 ≤ length (now cells)) × (steps .used ≤ steps .budget) × Indexed (now deck) (now index) ⌝ }
-    ensures { λ r. ⌜ ((d : Deck) (gs : List Goal) → openDeck (now (deck .entry)) ≡ accepted d → Holding (d .symbols) (now (store .entry)) start gs → Replied d below (length (now (store .entry))) gs (steps .budget) (steps .used) r) ⌝ }
+    requires { ⌜ (8192 ≤ length (now cells)) × (account .steps + account .left < 4294967296) × Indexed (now deck) (now index) ⌝ }
+    ensures { λ r. ⌜ ((d : Deck) (gs : List Goal) → openDeck (now (deck .entry)) ≡ accepted d → Holding (d .symbols) (now (store .entry)) start gs → Replied d below (length (now (store .entry))) gs account r) ⌝ }
     ensures { λ _. ⌜ Rows (now (table .exit)) (now (draft .exit)) ⌝ }
 {
     let mut held = start;
-    let mut used = steps.used;
+    let mut current = account;
     let mut parked = false;
     while 0 < held {
-        if used == steps.budget {
+        if current.left == 0 {
             let verdict = Verdict::Interrupted(Stop::Budget);
-            return Reply { verdict, used };
+            return Reply {
+                verdict,
+                account: current,
+            };
         }
-        let count = Steps {
-            budget: steps.budget,
-            used,
-        };
-        match take_step(deck, below, store, held, count, cells, table, draft, index) {
+        match take_step(
+            deck,
+            below,
+            store,
+            held,
+            current,
+            cells,
+            table,
+            draft,
+            index,
+        ) {
             Turn::Empty => {
                 let verdict = Verdict::Succeeds;
-                used += 1;
-                return Reply { verdict, used };
+                let account = pay_one(current);
+                return Reply { verdict, account };
             }
-            Turn::Park(_, k) => {
+            Turn::Park(_, after) => {
                 held -= wide(store[held - 1]);
-                used = k;
+                current = after;
                 parked = true;
             }
-            Turn::More(h, k) => {
+            Turn::More(h, after) => {
                 held = h;
-                used = k;
+                current = after;
             }
-            Turn::Stopped(stop, used) => {
+            Turn::Stopped(stop, account) => {
                 let verdict = Verdict::Interrupted(stop);
-                return Reply { verdict, used };
+                return Reply { verdict, account };
             }
         }
     }
     let verdict = finished(parked);
-    Reply { verdict, used }
+    Reply {
+        verdict,
+        account: current,
+    }
 }
 
 // What a finished level says of its atom.

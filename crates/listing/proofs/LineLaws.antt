@@ -51,15 +51,17 @@ number-then : (n : ℕ) (xs ys : List ℕ) → xs ≡ ys → 32 ∷ decimal n xs
 number-then n xs ys e = ap {B = List ℕ} (λ x. 32 ∷ x) (decimal-append n [] xs ∙ ap (decimal n [] ++_) e)
 
 pub counts-parts :
-    (a b c d : ℕ) → countsText a b c d ≡ (32 ∷ decimal a []) ++ ((32 ∷ decimal b []) ++ ((32 ∷ decimal c []) ++ ((32 ∷ decimal d []) ++ (10 ∷ []))))
-counts-parts a b c d = number-then a _ _ (number-then b _ _ (number-then c _ _ (number-then d _ _ refl)))
+    (a b c d e : ℕ)
+    → countsText a b c d e ≡ (32 ∷ decimal a []) ++ ((32 ∷ decimal b []) ++ ((32 ∷ decimal c []) ++ ((32 ∷ decimal d []) ++ ((32 ∷ decimal e []) ++ (10 ∷ [])))))
+counts-parts a b c d e = number-then a _ _ (number-then b _ _ (number-then c _ _ (number-then d _ _ (number-then e _ _ refl))))
 
 number-before : (n : ℕ) (xs rest ys : List ℕ) → ys ≡ xs ++ rest → 32 ∷ decimal n ys ≡ (32 ∷ decimal n xs) ++ rest
 number-before n xs rest ys e = ap {B = List ℕ} (λ x. 32 ∷ x) (ap (decimal n) e ∙ decimal-append n xs rest)
 
 counts-before :
-    (a b c d : ℕ) (rest : List ℕ) → 32 ∷ decimal a (32 ∷ decimal b (32 ∷ decimal c (32 ∷ decimal d (10 ∷ rest)))) ≡ countsText a b c d ++ rest
-counts-before a b c d rest = number-before a _ rest _ (number-before b _ rest _ (number-before c _ rest _ (number-before d _ rest _ refl)))
+    (a b c d e : ℕ) (rest : List ℕ)
+    → 32 ∷ decimal a (32 ∷ decimal b (32 ∷ decimal c (32 ∷ decimal d (32 ∷ decimal e (10 ∷ rest))))) ≡ countsText a b c d e ++ rest
+counts-before a b c d e rest = number-before a _ rest _ (number-before b _ rest _ (number-before c _ rest _ (number-before d _ rest _ (number-before e _ rest _ refl))))
 
 -- Lengths.
 pub verdict-length : (s : rules.Stop) (ms : List Marked) (gs : List Goal) → length (verdictText s ms gs) ≤ 4
@@ -79,23 +81,24 @@ stop-length answers = omega arith
 stop-length store = omega arith
 
 pub counts-length :
-    (a b c d : ℕ) → length (decimal a []) ≤ 10 → length (decimal b []) ≤ 10 → length (decimal c []) ≤ 10 → length (decimal d []) ≤ 10
-    → length (countsText a b c d) ≤ 45
-counts-length a b c d ha hb hc hd =
+    (a b c d e : ℕ) → length (decimal a []) ≤ 10 → length (decimal b []) ≤ 10 → length (decimal c []) ≤ 10 → length (decimal d []) ≤ 10 → length (decimal e []) ≤ 10
+    → length (countsText a b c d e) ≤ 56
+counts-length a b c d e ha hb hc hd he =
     omega (
       arith,
-      ap length (counts-parts a b c d),
-      length-append (decimal a []) ((32 ∷ decimal b []) ++ ((32 ∷ decimal c []) ++ ((32 ∷ decimal d []) ++ (10 ∷ [])))),
-      length-append (decimal b []) ((32 ∷ decimal c []) ++ ((32 ∷ decimal d []) ++ (10 ∷ []))),
-      length-append (decimal c []) ((32 ∷ decimal d []) ++ (10 ∷ [])),
-      length-append (decimal d []) (10 ∷ []),
+      ap length (counts-parts a b c d e),
+      length-append (decimal a []) ((32 ∷ decimal b []) ++ ((32 ∷ decimal c []) ++ ((32 ∷ decimal d []) ++ ((32 ∷ decimal e []) ++ (10 ∷ []))))),
+      length-append (decimal b []) ((32 ∷ decimal c []) ++ ((32 ∷ decimal d []) ++ ((32 ∷ decimal e []) ++ (10 ∷ [])))),
+      length-append (decimal c []) ((32 ∷ decimal d []) ++ ((32 ∷ decimal e []) ++ (10 ∷ []))),
+      length-append (decimal d []) ((32 ∷ decimal e []) ++ (10 ∷ [])),
+      length-append (decimal e []) (10 ∷ []),
     )
 
 -- A listing is its first two lines and then the answers.
 pub listing-parts : (o : Outcome) → listing (accepted o) ≡ headText o ++ printAnswers (o .answers)
 unfolding listing
 listing-parts o =
-    rw (counts-before (o .steps) (length (o .answers)) (length (o .pending)) (length (o .parked)) (printAnswers (o .answers))) (simp append-assoc)
+    rw (counts-before (o .steps) (length (o .answers)) (length (o .pending)) (length (o .parked)) (o .cost) (printAnswers (o .answers))) (simp append-assoc)
 
 -- Of a report that an outcome has: its numbers, and the first two lines in parts.
 module _ (r : Report) (o : Outcome) (e : reportOf r ≡ run.report o) where
@@ -110,10 +113,11 @@ module _ (r : Report) (o : Outcome) (e : reportOf r ≡ run.report o) where
   pub head-parts :
       headText o
       ≡ (verdictText (stopOf (r .stop)) (o .parked) (o .answers) ++ (10 ∷ []))
-      ++ (stopText (stopOf (r .stop)) ++ countsText (r .steps) (r .answers) (r .pending) (r .parked))
+      ++ (stopText (stopOf (r .stop)) ++ countsText (r .steps) (r .answers) (r .pending) (r .parked) (r .cost))
   unfolding run.report
   head-parts =
       let s : stopOf (r .stop) ≡ o .stop = ap (λ (x : run.Report). x .stop) e in
       let n : r .steps ≡ o .steps = ap (λ (x : run.Report). x .steps) e in
       let p : r .pending ≡ length (o .pending) = ap (λ (x : run.Report). x .pending) e in
-      rw (s, n, p, ← same-answers, ← same-parked) (simp append-assoc)
+      let k : r .cost ≡ o .cost = ap (λ (x : run.Report). x .cost) e in
+      rw (s, n, p, k, ← same-answers, ← same-parked) (simp append-assoc)

@@ -45,14 +45,14 @@ module _ (symbolWords list : List ℕ) (number : ℕ) where
       (gs : List Goal) → AnswersAt symbolWords list 0 gs → length gs ≡ number → Put out at (printAnswers gs) end after
 
 -- The numbers of the second line, and the first two lines of a listing.
-abbrev pub countsText : ℕ → ℕ → ℕ → ℕ → List ℕ
-countsText steps answers pending parked =
-    32 ∷ decimal steps (32 ∷ decimal answers (32 ∷ decimal pending (32 ∷ decimal parked (10 ∷ []))))
+abbrev pub countsText : ℕ → ℕ → ℕ → ℕ → ℕ → List ℕ
+countsText steps answers pending parked cost =
+    32 ∷ decimal steps (32 ∷ decimal answers (32 ∷ decimal pending (32 ∷ decimal parked (32 ∷ decimal cost (10 ∷ [])))))
 
 abbrev pub headText : Outcome → List ℕ
 headText o =
     verdictText (o .stop) (o .parked) (o .answers)
-    ++ (10 ∷ (stopText (o .stop) ++ countsText (o .steps) (length (o .answers)) (length (o .pending)) (length (o .parked))))
+    ++ (10 ∷ (stopText (o .stop) ++ countsText (o .steps) (length (o .answers)) (length (o .pending)) (length (o .parked)) (o .cost)))
 
 -- The report and the answer list are what a run of this outcome returns and leaves.
 pub record Shown (o : Outcome) (report : Report) (list symbolWords : List ℕ) : Type 0 where

@@ -21,10 +21,10 @@ pub use crate::lines::put_refusal;
 
 // The whole listing of an accepted run, from the start of the output on. Returns the number of bytes.
 pub fn put_listing(out: &mut [u8], report: Report, answers: &[u16], symbols: &[u16]) -> usize
-    requires { ⌜ (length (now answers) ≤ 65535) × (58 + 8 * length (now answers) ≤ length (now out)) ⌝ }
+    requires { ⌜ (length (now answers) ≤ 65535) × (69 + 8 * length (now answers) ≤ length (now out)) ⌝ }
     requires { ⌜ ((o : Outcome) × Shown o report (now answers) (now symbols)) ⌝ }
     ensures { λ r. ⌜ ((o : Outcome) → Shown o report (now (answers .entry)) (now (symbols .entry)) → Put (now (out .entry)) 0 (listing (accepted o)) r (now (out .exit))) ⌝ }
-    ensures { λ r. ⌜ r ≤ 58 + 8 * length (now (answers .entry)) ⌝ }
+    ensures { λ r. ⌜ r ≤ 69 + 8 * length (now (answers .entry)) ⌝ }
 {
     let at = lines::put_head(out, report);
     let count = report.answers as usize;

@@ -49,7 +49,7 @@ fn put_stop(out: &mut [u8], at: usize, stop: Stop) -> usize
     }
 }
 
-// The numbers of steps, answers, pending and parked goals, with a space in front of each, and the line's end.
+// The numbers of steps, answers, pending and parked goals and the cost, with a space in front of each, and the line's end.
 fn put_counts(
     out: &mut [u8],
     at: usize,
@@ -57,23 +57,25 @@ fn put_counts(
     answers: u32,
     pending: u32,
     parked: u32,
+    cost: u32,
 ) -> usize
-    requires { ⌜ at + length (countsText steps answers pending parked) ≤ length (now out) ⌝ }
-    ensures { λ r. ⌜ Put (now (out .entry)) at (countsText steps answers pending parked) r (now (out .exit)) ⌝ }
+    requires { ⌜ at + length (countsText steps answers pending parked cost) ≤ length (now out) ⌝ }
+    ensures { λ r. ⌜ Put (now (out .entry)) at (countsText steps answers pending parked cost) r (now (out .exit)) ⌝ }
 {
     let a = put_prefixed(out, at, b' ', steps);
     let b = put_prefixed(out, a, b' ', answers);
     let c = put_prefixed(out, b, b' ', pending);
     let d = put_prefixed(out, c, b' ', parked);
-    put(out, d, b"\n")
+    let e = put_prefixed(out, d, b' ', cost);
+    put(out, e, b"\n")
 }
 
-// The first two lines: the verdict, and then stop, steps, answers, pending and parked.
+// The first two lines: the verdict, and then stop, steps, answers, pending, parked and cost.
 pub fn put_head(out: &mut [u8], report: Report) -> usize
-    requires { ⌜ (58 ≤ length (now out)) × (report .answers < 4294967296) ⌝ }
+    requires { ⌜ (69 ≤ length (now out)) × (report .answers < 4294967296) ⌝ }
     requires { ⌜ ((o : Outcome) × (reportOf report ≡ run.report o)) ⌝ }
     ensures { λ r. ⌜ ((o : Outcome) → reportOf report ≡ run.report o → Put (now (out .entry)) 0 (headText o) r (now (out .exit))) ⌝ }
-    ensures { λ r. ⌜ r ≤ 58 ⌝ }
+    ensures { λ r. ⌜ r ≤ 69 ⌝ }
 {
     let stop = report.stop;
     let line = put_verdict(out, 0, stop, report.answers, report.parked);
@@ -86,6 +88,7 @@ pub fn put_head(out: &mut [u8], report: Report) -> usize
         answers,
         report.pending,
         report.parked,
+        report.cost,
     )
 }
 

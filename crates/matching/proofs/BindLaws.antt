@@ -182,9 +182,9 @@ module _ {ar cells bs trail : List ℕ} {n : ℕ} (g : Good ar cells bs trail n)
 
 -- the equation between a free variable v and the term at p, after the occurs check
 module _ {ar cells bs trail marks : List ℕ} {n v p : ℕ} (c : Checking ar cells bs trail n v marks) (u : Free bs v) (f : Final cells bs p) where
-  pub eliminate-fails : Occurs (occ v (value ar cells bs trail n p)) true → Ran ar cells bs trail n (eliminated v (value ar cells bs trail n p)) bs trail marks (Failed n)
+  pub eliminate-fails : (rest : ℕ) → Occurs (occ v (value ar cells bs trail n p)) true → Ran ar cells bs trail n (eliminated v (value ar cells bs trail n p)) (suc rest) bs trail marks (Failed n rest)
   unfolding eliminated
-  eliminate-fails o = record { state = c .state; tells = (1, ite-no (ℕ-discrete (occ v (value ar cells bs trail n p)) 0) _ _ (λ e. omega (arith, o .if-so refl))) }
+  eliminate-fails rest o = record { state = c .state; tells = (1, ite-no (ℕ-discrete (occ v (value ar cells bs trail n p)) 0) _ _ (λ e. omega (arith, o .if-so refl)), omega arith) }
 
   bound′ : (w : ℕ) → (getD marks w 0 ≡ 0 → ⊥) → (w < length (set bs v p)) × (getD (set bs v p) w 0 ≡ 65535 → ⊥)
   bound′ w h =
@@ -196,13 +196,13 @@ module _ {ar cells bs trail marks : List ℕ} {n v p : ℕ} (c : Checking ar cel
         ],
       )
 
-  pub eliminate-binds : Occurs (occ v (value ar cells bs trail n p)) false → Ran ar cells bs trail n (eliminated v (value ar cells bs trail n p)) (set bs v p) (set trail n v) marks (Unified (n + 1))
+  pub eliminate-binds : (rest : ℕ) → Occurs (occ v (value ar cells bs trail n p)) false → Ran ar cells bs trail n (eliminated v (value ar cells bs trail n p)) (suc rest) (set bs v p) (set trail n v) marks (Unified (n + 1) rest)
   unfolding eliminated
-  eliminate-binds o =
+  eliminate-binds rest o =
       let away : occ v (value ar cells bs trail n p) ≡ 0 = o .if-not refl in
       record {
         state = record { good = bind-good (c .state .good) u f away; wide = rw length-set (c .state .wide); low = c .state .low; bound = bound′ };
-        tells = (1, bind v (value ar cells bs trail n p) done, ite-yes (ℕ-discrete (occ v (value ar cells bs trail n p)) 0) _ _ away, bind-elims (c .state .good) u f away);
+        tells = (1, bind v (value ar cells bs trail n p) done, ite-yes (ℕ-discrete (occ v (value ar cells bs trail n p)) 0) _ _ away, bind-elims (c .state .good) u f away, omega arith);
       }
 
 -- no variable is bound

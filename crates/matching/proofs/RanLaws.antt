@@ -15,7 +15,7 @@ use Rattle.matching.specs.Cells.{argsOf, from, others, Next}
 use Rattle.matching.specs.Bindings.{elimsAfter, elims, value, alone, seen, State, Paired}
 use Rattle.matching.specs.Outcomes.{eliminated, bindings, Tells, Ran, Is, Ended}
 use Rattle.matching.specs.declared.unify.Outcome.{Outcome}
-use Rattle.matching.specs.declared.unify.Outcome.the-variants.{Unified, Failed}
+use Rattle.matching.specs.declared.unify.Outcome.the-variants.{Unified, Failed, Broken}
 use Rattle.matching.proofs.TakeLaws.{count-take}
 use Rattle.matching.proofs.SeenLaws.{Opened, open-var, open-functor, args-enough}
 use Rattle.matching.proofs.BindLaws.{state-trailed}
@@ -108,25 +108,41 @@ module _ {ar cells bs trail marks : List ℕ} {n a b : ℕ} (u : Paired ar cells
 
 -- 2. What it leaves.
 
-tells-tick : (o : Unification) (before now′ : Substitution) (r : Outcome) → Tells o before now′ r → Tells (tick o) before now′ r
-tells-tick o before now′ (Unified m) w = (suc (w .0), w .1, ap tick (w .2), w .3)
-tells-tick o before now′ (Failed m) w = (suc (w .0), ap tick (w .1))
+tells-tick : (o : Unification) → Found o → (left : ℕ) (before now′ : Substitution) (r : Outcome) → Tells o (left - 1) before now′ r → (left ≡ 0 → ⊥) → Tells (tick o) left before now′ r
+tells-tick o f left before now′ (Unified m l) w z = (suc (w .0), w .1, ap tick (w .2), w .3, omega (arith, w .4))
+tells-tick o f left before now′ (Failed m l) w z = (suc (w .0), ap tick (w .1), omega (arith, w .2))
+tells-tick o f left before now′ (Broken m) w z = omega (arith, w, taken-tick o f)
 
-module _ {ar cells bs trail : List ℕ} {n : ℕ} where
-  pub ran-by : {o o′ : Unification} {bs′ trail′ marks′ : List ℕ} {r : Outcome} → Ran ar cells bs trail n o bs′ trail′ marks′ r → o′ ≡ o → Ran ar cells bs trail n o′ bs′ trail′ marks′ r
-  ran-by {bs′ = bs′} {trail′} {marks′} {r} w e = subst (λ x. Ran ar cells bs trail n x bs′ trail′ marks′ r) (sym e) w
+module _ {ar cells bs trail : List ℕ} {n left : ℕ} where
+  pub ran-by : {o o′ : Unification} {bs′ trail′ marks′ : List ℕ} {r : Outcome} → Ran ar cells bs trail n o left bs′ trail′ marks′ r → o′ ≡ o → Ran ar cells bs trail n o′ left bs′ trail′ marks′ r
+  ran-by {bs′ = bs′} {trail′} {marks′} {r} w e = subst (λ x. Ran ar cells bs trail n x left bs′ trail′ marks′ r) (sym e) w
 
-  pub ran-answer : {o : Unification} {bs′ trail′ marks′ : List ℕ} {r r′ : Outcome} → Ran ar cells bs trail n o bs′ trail′ marks′ r → r ≡ r′ → Ran ar cells bs trail n o bs′ trail′ marks′ r′
-  ran-answer {o} {bs′} {trail′} {marks′} w e = subst (λ x. Ran ar cells bs trail n o bs′ trail′ marks′ x) e w
+  pub ran-answer : {o : Unification} {bs′ trail′ marks′ : List ℕ} {r r′ : Outcome} → Ran ar cells bs trail n o left bs′ trail′ marks′ r → r ≡ r′ → Ran ar cells bs trail n o left bs′ trail′ marks′ r′
+  ran-answer {o} {bs′} {trail′} {marks′} w e = subst (λ x. Ran ar cells bs trail n o left bs′ trail′ marks′ x) e w
 
-  pub ran-tick : {o o′ : Unification} {bs′ trail′ marks′ : List ℕ} {r : Outcome} → Ran ar cells bs trail n o bs′ trail′ marks′ r → o′ ≡ tick o → Ran ar cells bs trail n o′ bs′ trail′ marks′ r
-  ran-tick {o} {bs′ = bs′} {trail′} {r = r} w e = ran-by (record { state = w .state; tells = tells-tick o (elims ar cells bs trail n) (elims ar cells bs′ trail′ (bindings r)) r (w .tells) }) e
+  -- one equation and none after it
+  pub ran-one : {o o′ : Unification} {bs′ trail′ marks′ : List ℕ} {r : Outcome} → Ran ar cells bs trail n o (suc (left - 1)) bs′ trail′ marks′ r → (left ≡ 0 → ⊥) → o′ ≡ o → Ran ar cells bs trail n o′ left bs′ trail′ marks′ r
+  ran-one {o} {bs′ = bs′} {trail′} {marks′} {r} w z e =
+      let q : suc (left - 1) ≡ left = omega arith in
+      ran-by (subst (λ x. Ran ar cells bs trail n o x bs′ trail′ marks′ r) q w) e
 
-  pub ran-none : {marks : List ℕ} {o : Unification} (k : ℕ) → State ar cells bs trail marks n n → o ≡ solved k done → Ran ar cells bs trail n o bs trail marks (Unified n)
-  ran-none k s e = record { state = s; tells = (k, done, e, sym (substitutions-done (elims ar cells bs trail n))) }
+  pub ran-tick : (ts us : Terms) {o′ : Unification} {bs′ trail′ marks′ : List ℕ} {r : Outcome} → Ran ar cells bs trail n (unify ts us) (left - 1) bs′ trail′ marks′ r → (left ≡ 0 → ⊥) → o′ ≡ tick (unify ts us) → Ran ar cells bs trail n o′ left bs′ trail′ marks′ r
+  ran-tick ts us {bs′ = bs′} {trail′} {r = r} w z e =
+      ran-by (record { state = w .state; tells = tells-tick (unify ts us) (unify-found ts us) left (elims ar cells bs trail n) (elims ar cells bs′ trail′ (bindings r)) r (w .tells) z }) e
 
-  pub ran-fails : {marks : List ℕ} {o : Unification} (k : ℕ) → State ar cells bs trail marks n n → o ≡ fails k → Ran ar cells bs trail n o bs trail marks (Failed n)
-  ran-fails k s e = record { state = record { good = s .good; wide = s .wide; low = λ w. omega (arith, s .low w); bound = s .bound }; tells = (k, e) }
+  pub ran-none : {marks : List ℕ} {o : Unification} (k l : ℕ) → State ar cells bs trail marks n n → k + l ≡ left → o ≡ solved k done → Ran ar cells bs trail n o left bs trail marks (Unified n l)
+  ran-none k l s q e = record { state = s; tells = (k, done, e, sym (substitutions-done (elims ar cells bs trail n)), q) }
+
+  pub ran-fails : {marks : List ℕ} {o : Unification} (k l : ℕ) → State ar cells bs trail marks n n → k + l ≡ left → o ≡ fails k → Ran ar cells bs trail n o left bs trail marks (Failed n l)
+  ran-fails k l s q e = record { state = record { good = s .good; wide = s .wide; low = λ w. omega (arith, s .low w); bound = s .bound }; tells = (k, e, q) }
+
+module _ {ar cells bs trail marks : List ℕ} {n a b left : ℕ} (u : Paired ar cells bs trail marks n a b) where
+  -- an equation that is not taken
+  pub ran-out : left ≡ 0 → Ran ar cells bs trail n (unify (alone ar cells bs trail n a) (alone ar cells bs trail n b)) left bs trail marks (Broken n)
+  ran-out z = record { state = u .state; tells = omega (arith, taken-cons (value ar cells bs trail n a) (value ar cells bs trail n b) nil nil) }
+
+  pub ran-args : (k : ℕ) → k ≡ argsOf ar (getD cells a 0) → getD cells a 0 < 32768 → getD cells b 0 < 32768 → getD cells a 0 ≡ getD cells b 0 → {bs′ trail′ marks′ : List ℕ} {r : Outcome} → Ran ar cells bs trail n (unify (seen ar cells bs trail n (a + 1) k) (seen ar cells bs trail n (b + 1) k)) (left - 1) bs′ trail′ marks′ r → (left ≡ 0 → ⊥) → Ran ar cells bs trail n (unify (alone ar cells bs trail n a) (alone ar cells bs trail n b)) left bs′ trail′ marks′ r
+  ran-args k e la lb q w z = ran-tick (seen ar cells bs trail n (a + 1) k) (seen ar cells bs trail n (b + 1) k) w z (pair-args u k e la lb q)
 
 -- no equation
 pub none-left : (es : Substitution) (ts us : Terms) (k : ℕ) → k ≡ 0 → unify (applys es (takeT k ts)) (applys es (takeT k us)) ≡ solved 0 done
@@ -145,9 +161,10 @@ taken-then (fails k) l r f = omega arith
 taken-then spent l r f = absurd f
 taken-then (solved k es) l r f = omega (arith, taken-after k es (unify (applys es l) (applys es r)) (unify-found (applys es l) (applys es r)))
 
-tells-after : (k : ℕ) (es : Substitution) (o : Unification) (before mid end : Substitution) (r : Outcome) → mid ≡ join before es → Tells o mid end r → Tells (after k es o) before end r
-tells-after k es o before mid end (Unified m) e w = (k + w .0, join es (w .1), ap (after k es) (w .2), w .3 ∙ ap (λ x. join x (w .1)) e ∙ substitutions-assoc before es (w .1))
-tells-after k es o before mid end (Failed m) e w = (k + w .0, ap (after k es) (w .1))
+tells-after : (k : ℕ) (es : Substitution) (o : Unification) → Found o → (left l : ℕ) → k + l ≡ left → (before mid end : Substitution) (r : Outcome) → mid ≡ join before es → Tells o l mid end r → Tells (after k es o) left before end r
+tells-after k es o f left l q before mid end (Unified m d) e w = (k + w .0, join es (w .1), ap (after k es) (w .2), w .3 ∙ ap (λ x. join x (w .1)) e ∙ substitutions-assoc before es (w .1), omega (arith, w .4))
+tells-after k es o f left l q before mid end (Failed m d) e w = (k + w .0, ap (after k es) (w .1), omega (arith, w .2))
+tells-after k es o f left l q before mid end (Broken m) e w = omega (arith, w, taken-after k es o f)
 
 module _ {ar cells bs trail : List ℕ} {n p q k a b : ℕ} (u : Opened ar cells bs trail n p k a) (v : Opened ar cells bs trail n q k b) where
   abbrev ls : Terms
@@ -162,11 +179,14 @@ module _ {ar cells bs trail : List ℕ} {n p q k a b : ℕ} (u : Opened ar cells
   pub first-fewer : 2 * equations (unify (alone ar cells bs trail n a) (alone ar cells bs trail n b)) < 2 * equations (unify (seen ar cells bs trail n p k) (seen ar cells bs trail n q k)) + 1
   first-fewer = omega (arith, ap equations joined, taken-then (unify (alone ar cells bs trail n a) (alone ar cells bs trail n b)) ls rs (unify-found (alone ar cells bs trail n a) (alone ar cells bs trail n b)))
 
-  pub ran-stop : {bs₁ trail₁ marks₁ : List ℕ} {m : ℕ} → Ran ar cells bs trail n (unify (alone ar cells bs trail n a) (alone ar cells bs trail n b)) bs₁ trail₁ marks₁ (Failed m) → Ran ar cells bs trail n (unify (seen ar cells bs trail n p k) (seen ar cells bs trail n q k)) bs₁ trail₁ marks₁ (Failed m)
-  ran-stop w = record { state = w .state; tells = (w .tells .0, joined ∙ ap (λ o. then o ls rs) (w .tells .1)) }
+  pub ran-stop : {bs₁ trail₁ marks₁ : List ℕ} {m l left : ℕ} → Ran ar cells bs trail n (unify (alone ar cells bs trail n a) (alone ar cells bs trail n b)) left bs₁ trail₁ marks₁ (Failed m l) → Ran ar cells bs trail n (unify (seen ar cells bs trail n p k) (seen ar cells bs trail n q k)) left bs₁ trail₁ marks₁ (Failed m l)
+  ran-stop w = record { state = w .state; tells = (w .tells .0, joined ∙ ap (λ o. then o ls rs) (w .tells .1), w .tells .2) }
+
+  pub ran-break : {bs₁ trail₁ marks₁ : List ℕ} {m left : ℕ} → Ran ar cells bs trail n (unify (alone ar cells bs trail n a) (alone ar cells bs trail n b)) left bs₁ trail₁ marks₁ (Broken m) → Ran ar cells bs trail n (unify (seen ar cells bs trail n p k) (seen ar cells bs trail n q k)) left bs₁ trail₁ marks₁ (Broken m)
+  ran-break w = record { state = w .state; tells = omega (arith, w .tells, first-fewer) }
 
   -- the others, at p′ and q′, after the eliminations of the first
-  module _ {bs₁ trail₁ marks₁ : List ℕ} {m : ℕ} (w : Ran ar cells bs trail n (unify (alone ar cells bs trail n a) (alone ar cells bs trail n b)) bs₁ trail₁ marks₁ (Unified m)) {p′ q′ : ℕ} (s : Next ar cells p k p′) (t : Next ar cells q k q′) where
+  module _ {bs₁ trail₁ marks₁ : List ℕ} {m l left : ℕ} (w : Ran ar cells bs trail n (unify (alone ar cells bs trail n a) (alone ar cells bs trail n b)) left bs₁ trail₁ marks₁ (Unified m l)) {p′ q′ : ℕ} (s : Next ar cells p k p′) (t : Next ar cells q k q′) where
     moved : {i i′ : ℕ} → Next ar cells i k i′ → seen ar cells bs₁ trail₁ m i′ (k - 1) ≡ applys (w .tells .1) (applys (elims ar cells bs trail n) (others ar cells i k))
     moved {i} x = ap₂ applys (w .tells .3) (x .same) ∙ applys-join (elims ar cells bs trail n) (w .tells .1) (others ar cells i k)
 
@@ -186,19 +206,22 @@ module _ {ar cells bs trail : List ℕ} {n p q k a b : ℕ} (u : Opened ar cells
           ap equations (w .tells .2),
         )
 
-    pub ran-rest : {bs₂ trail₂ marks₂ : List ℕ} {r : Outcome} → Ran ar cells bs₁ trail₁ m (unify (seen ar cells bs₁ trail₁ m p′ (k - 1)) (seen ar cells bs₁ trail₁ m q′ (k - 1))) bs₂ trail₂ marks₂ r → Ran ar cells bs trail n (unify (seen ar cells bs trail n p k) (seen ar cells bs trail n q k)) bs₂ trail₂ marks₂ r
-    ran-rest {bs₂} {trail₂} {r = r} z = ran-by (record { state = z .state; tells = tells-after (w .tells .0) (w .tells .1) o₁ (elims ar cells bs trail n) (elims ar cells bs₁ trail₁ m) (elims ar cells bs₂ trail₂ (bindings r)) r (w .tells .3) (z .tells) }) rest
+    pub ran-rest : {bs₂ trail₂ marks₂ : List ℕ} {r : Outcome} → Ran ar cells bs₁ trail₁ m (unify (seen ar cells bs₁ trail₁ m p′ (k - 1)) (seen ar cells bs₁ trail₁ m q′ (k - 1))) l bs₂ trail₂ marks₂ r → Ran ar cells bs trail n (unify (seen ar cells bs trail n p k) (seen ar cells bs trail n q k)) left bs₂ trail₂ marks₂ r
+    ran-rest {bs₂} {trail₂} {r = r} z =
+        let f = unify-found (seen ar cells bs₁ trail₁ m p′ (k - 1)) (seen ar cells bs₁ trail₁ m q′ (k - 1)) in
+        ran-by (record { state = z .state; tells = tells-after (w .tells .0) (w .tells .1) o₁ f left l (w .tells .4) (elims ar cells bs trail n) (elims ar cells bs₁ trail₁ m) (elims ar cells bs₂ trail₂ (bindings r)) r (w .tells .3) (z .tells) }) rest
 
 -- 4. From no bindings.
 
-is-told : (o : Unification) (es : Substitution) (r : Outcome) → Tells o done es r → Is o es r
-is-told o es (Unified m) w = (w .0, w .2 ∙ ap (solved (w .0)) (sym (w .3)))
-is-told o es (Failed m) w = w
+is-told : (o : Unification) (left : ℕ) (es : Substitution) (r : Outcome) → Tells o left done es r → Is o left es r
+is-told o left es (Unified m l) w = (w .0, w .2 ∙ ap (solved (w .0)) (sym (w .3)), w .4)
+is-told o left es (Failed m l) w = w
+is-told o left es (Broken m) w = w
 
-pub ran-ended : {ar cells bs trail : List ℕ} (p q k : ℕ) {bs′ trail′ marks′ : List ℕ} {r : Outcome} → Ran ar cells bs trail 0 (unify (seen ar cells bs trail 0 p k) (seen ar cells bs trail 0 q k)) bs′ trail′ marks′ r → Ended ar cells (unify (takeT k (from ar cells p)) (takeT k (from ar cells q))) bs′ trail′ marks′ r
+pub ran-ended : {ar cells bs trail : List ℕ} (p q k : ℕ) {left : ℕ} {bs′ trail′ marks′ : List ℕ} {r : Outcome} → Ran ar cells bs trail 0 (unify (seen ar cells bs trail 0 p k) (seen ar cells bs trail 0 q k)) left bs′ trail′ marks′ r → Ended ar cells (unify (takeT k (from ar cells p)) (takeT k (from ar cells q))) left bs′ trail′ marks′ r
 unfolding elimsAfter
-ran-ended {ar} {cells} p q k {bs′} {trail′} {r = r} w = record { good = w .state .good; trailed = state-trailed (w .state); is = is-told _ (elims ar cells bs′ trail′ (bindings r)) r (w .tells) }
+ran-ended {ar} {cells} p q k {left} {bs′} {trail′} {r = r} w = record { good = w .state .good; trailed = state-trailed (w .state); is = is-told _ left (elims ar cells bs′ trail′ (bindings r)) r (w .tells) }
 
 -- for a `match` on the outcome
-pub ended-answer : {ar cells bs trail marks : List ℕ} {o : Unification} {r r′ : Outcome} → Ended ar cells o bs trail marks r → r ≡ r′ → Ended ar cells o bs trail marks r′
-ended-answer {ar} {cells} {bs} {trail} {marks} {o} w e = subst (Ended ar cells o bs trail marks) e w
+pub ended-answer : {ar cells bs trail marks : List ℕ} {o : Unification} {left : ℕ} {r r′ : Outcome} → Ended ar cells o left bs trail marks r → r ≡ r′ → Ended ar cells o left bs trail marks r′
+ended-answer {ar} {cells} {bs} {trail} {marks} {o} {left} w e = subst (Ended ar cells o left bs trail marks) e w

@@ -14,8 +14,8 @@ use listing::put_refusal;
 pub mod input;
 
 // What the program prints, at the start of `out`, whose other bytes stay; the result is how many bytes. `present` says that the deck file is there.
-// The deck is refused before anything is said of the query. A listing has at most 58 bytes in its first two lines, and 8 for each word of the answer list.
-pub fn printed(present: bool, deck: &[u8], query: &[u8], out: &mut [u8; 65594]) -> usize
+// The deck is refused before anything is said of the query. A listing has at most 69 bytes in its first two lines, and 8 for each word of the answer list.
+pub fn printed(present: bool, deck: &[u8], query: &[u8], out: &mut [u8; 65605]) -> usize
     ensures { λ r. ⌜ Printed (program (fileOf present (now (deck .entry))) (now (query .entry))) (now (out .entry)) r (now (out .exit)) ⌝ }
 {
     let bad_deck = deck_refusal(present, deck);
@@ -34,7 +34,7 @@ pub fn printed(present: bool, deck: &[u8], query: &[u8], out: &mut [u8; 65594]) 
 }
 
 // The words of both inputs are there.
-fn listed(deck: &[u16], query: &[u16], out: &mut [u8; 65594]) -> usize
+fn listed(deck: &[u16], query: &[u16], out: &mut [u8; 65605]) -> usize
     ensures { λ r. ⌜ Printed (listing (wordsRun (now (deck .entry)) (now (query .entry)))) (now (out .entry)) r (now (out .exit)) ⌝ }
 {
     let mut answers = [0u16; 8192];

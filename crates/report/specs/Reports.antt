@@ -12,4 +12,4 @@ stopOf Answers = rules.answers
 stopOf Store = rules.store
 
 abbrev pub reportOf : Report → run.Report
-reportOf r = record { stop = stopOf (r .stop); steps = r .steps; answers = r .answers; pending = r .pending; parked = r .parked }
+reportOf r = record { stop = stopOf (r .stop); steps = r .steps; cost = r .cost; answers = r .answers; pending = r .pending; parked = r .parked }

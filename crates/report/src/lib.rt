@@ -11,10 +11,11 @@ pub enum Stop {
     Store,
 }
 
-// The stop, the steps used over all levels, and the numbers of answers, pending and parked goals.
+// The stop, the steps used over all levels and their cost, and the numbers of answers, pending and parked goals.
 pub struct Report {
     pub stop: Stop,
     pub steps: u32,
+    pub cost: u32,
     pub answers: u64,
     pub pending: u32,
     pub parked: u32,

@@ -1,6 +1,7 @@
 -- A goal's cells with a clause's behind them, its variables made fresh: what stands where; and what is written of them is the resolvent.
 use Prim.Native.Nat.{ℕ, suc, _+_, _-_, _%_, _≤_, _<_}
 use mathlib.Core.Path.{_≡_, refl, sym, _∙_, ap, ap₂, subst, transport}
+use mathlib.Core.Option.{none}
 use mathlib.Core.List.{List, [], _∷_, _++_, map, append-assoc}
 use native.Mathlib.Decide.{decLt}
 use native.Mathlib.Omega.{arith}
@@ -26,13 +27,12 @@ use Rattle.matching.proofs.CellLaws.{args-functor}
 use Rattle.matching.proofs.DifferLaws.{differ-fails}
 use Rattle.resolvents.specs.Naming.{within}
 use Rattle.resolvents.specs.Variables.{freshCell}
-use Rattle.resolvents.specs.Deriving.{Calls, About, IsResolvent}
-use Rattle.resolvents.specs.Child.{DerivedBy, placeAfter, literalsBefore, Together}
-use Rattle.resolvents.specs.declared.resolve.Resolved.{Resolved}
-use Rattle.resolvents.specs.declared.resolve.Resolved.the-variants.{Nothing}
+use Rattle.resolvents.specs.Deriving.{Calls, About, equationsOf, IsAttempt}
+use Rattle.resolvents.specs.Child.{AttemptedBy, placeAfter, literalsBefore, Together}
+use Rattle.resolvents.specs.declared.resolve.Attempt.{Attempt}
 use Rattle.resolvents.proofs.CellTrees.{litTerms, lits-append, lits-sizes, lits-vars, lits-renames, join-fits, split-fits, goalTerms, goal-cells, goal-vars, clauseTerms, clause-cells, Known, positive-known, literals-fit}
 use Rattle.resolvents.proofs.RowLaws.{Stands, stands-room, stands-from, stands-taken, stands-within, stands-after, stands-first, stands-second, stands-cell, stands-arguments, terms-formed, terms-fresh, renames-fit, fresh-tops, cells-below, goal-fits, goal-few}
-use Rattle.resolvents.proofs.ResolventLaws.{derived-resolvent}
+use Rattle.resolvents.proofs.ResolventLaws.{attempted-resolvent}
 
 all-above : (b : ℕ) (vs : List ℕ) → All (λ v. v < b) vs → above vs ≤ b
 all-above b [] h = omega arith
@@ -202,19 +202,19 @@ module _ {ar cells clause : List ℕ} {size answers s e n : ℕ} {S : List Symbo
   pub first-of-head : 0 < argsOf ar (getD cells s 0) → 1 < length clause
   first-of-head h = omega (arith, arity-is, head-count, clause-length, count-sizes (c .arguments))
 
-  -- Where they are different symbols there is no resolvent.
+  -- Where they are different symbols there is no resolvent, and one equation is taken.
   pub call-differs :
-      (child : List ℕ) → 0 < argsOf ar (getD cells s 0)
+      (left : ℕ) (child : List ℕ) (r : Attempt) → 0 < argsOf ar (getD cells s 0)
       → (getD cells (s + 1) 0 < 32768) × (getD clause 1 0 < 32768) × (getD cells (s + 1) 0 ≡ getD clause 1 0 → ⊥)
-      → IsResolvent (resolvent n (g .answers) before ts after c) child Nothing
+      → IsAttempt none 1 left child r → IsAttempt (resolvent n (g .answers) before ts after c) (equationsOf n ts c) left child r
   unfolding resolvent resolved writeClause
-  call-differs child h d = rw (sym taken ∙ failed) tt
+  call-differs left child r h d w = rw (sym taken ∙ failed) w
     where
-      left : getD (take size cells) (s + 1) 0 ≡ getD cells (s + 1) 0
-      left = getD-take size cells (s + 1) 0 (first-argument h)
+      of-goal : getD (take size cells) (s + 1) 0 ≡ getD cells (s + 1) 0
+      of-goal = getD-take size cells (s + 1) 0 (first-argument h)
 
-      right : getD (writeTerms (c .arguments) (writeLiterals (c .body))) 0 0 ≡ getD clause 1 0
-      right = ap (λ cs. getD cs 1 0) (sym (a .cells))
+      of-head : getD (writeTerms (c .arguments) (writeLiterals (c .body))) 0 0 ≡ getD clause 1 0
+      of-head = ap (λ cs. getD cs 1 0) (sym (a .cells))
 
       taken : unify (takeT (count ts) (from ar (take size cells) (s + 1))) (fresh n (c .arguments)) ≡ unify ts (fresh n (c .arguments))
       taken = ap (λ us. unify us (fresh n (c .arguments))) (stands-taken (stands-arguments (at-literal goal-stands)) ar (count ts) (literals-parts .1 .0 .3) refl)
@@ -222,7 +222,7 @@ module _ {ar cells clause : List ℕ} {size answers s e n : ℕ} {S : List Symbo
       failed : unify (takeT (count ts) (from ar (take size cells) (s + 1))) (fresh n (c .arguments)) ≡ fails 1
       failed =
           differ-fails ar (take size cells) (s + 1) (count ts) (omega (arith, arity-is)) (omega (arith, length-take-le size cells (k .inside), first-argument h)) (c .arguments)
-          (writeLiterals (c .body)) (omega (arith, arity-is, head-count)) (rw (left, right) d) n
+          (writeLiterals (c .body)) (omega (arith, arity-is, head-count)) (rw (of-goal, of-head) d) n
 
   -- BOTH TOGETHER
   module _ {both : List ℕ} (q : both ≡ take size cells ++ map (freshCell n) clause) where
@@ -313,10 +313,10 @@ module _ {ar cells clause : List ℕ} {size answers s e n : ℕ} {S : List Symbo
 
     -- What is written of them is the resolvent.
     pub call-resolved :
-        {number : ℕ} (w : number ≡ argsOf ar (getD cells s 0)) (child : List ℕ) (r : Resolved)
-        → DerivedBy (unify (takeT number (from ar both (s + 1))) (takeT number (from ar both (size + 1)))) (within ar both 0 answers) (literalsBefore ar both size answers s e) child r
-        → IsResolvent (resolvent n (g .answers) before ts after c) child r
+        {number : ℕ} (w : number ≡ argsOf ar (getD cells s 0)) (left : ℕ) (child : List ℕ) (r : Attempt)
+        → AttemptedBy (unify (takeT number (from ar both (s + 1))) (takeT number (from ar both (size + 1)))) left (within ar both 0 answers) (literalsBefore ar both size answers s e) child r
+        → IsAttempt (resolvent n (g .answers) before ts after c) (equationsOf n ts c) left child r
     unfolding resolvent
-    call-resolved w child r h =
-        derived-resolvent (g .answers) (place before (mapLiterals (fresh n) (c .body)) after) child r (unify ts (fresh n (c .arguments)))
-        (transport (λ i. DerivedBy (unify (terms-taken w i) (arguments-taken w i)) (answers-range i) (literals-range i) child r) h)
+    call-resolved w left child r h =
+        attempted-resolvent (g .answers) (place before (mapLiterals (fresh n) (c .body)) after) left child r (unify ts (fresh n (c .arguments)))
+        (transport (λ i. AttemptedBy (unify (terms-taken w i) (arguments-taken w i)) left (answers-range i) (literals-range i) child r) h)

@@ -6,7 +6,7 @@ use native.Mathlib.Omega.{arith}
 use lib.ListN.{length, take, drop, set, replicate, length-replicate, getD-replicate}
 use lib.Seq.{sets, sets-eq, take-append-seam, ext-getD}
 use Rattle.rules.specs.Terms.{Terms, _+++_, sizes}
-use Rattle.rules.specs.Unification.{Unification, fails, solved, applys}
+use Rattle.rules.specs.Unification.{Unification, fails, solved, equations, applys}
 use Rattle.rules.proofs.TermLaws.{sizes-join, join-assoc}
 use Rattle.matching.specs.Taking.{dropT}
 use Rattle.matching.specs.Cells.{from, termAt}
@@ -99,6 +99,10 @@ module _ {out order : List ℕ} (A L all : Terms) (same : all ≡ A +++ L) {out�
           ∙ framed out xs end (sizes A) (omega (arith, ends, w .tells .1))
 
 -- AFTER UNIFICATION
+-- What is left after the equations.
+pub rest-left : {u v : Unification} {left : ℕ} (rest : ℕ) → u ≡ v → equations v + rest ≡ left → equations u + rest ≡ left
+rest-left rest e q = ap (λ x. equations x + rest) e ∙ q
+
 pub derived-fails : {o : Unification} (A L : Terms) (child : List ℕ) (k : ℕ) → o ≡ fails k → DerivedBy o A L child Nothing
 derived-fails {o} A L child k e = subst (λ u. DerivedBy u A L child Nothing) (sym e) refl
 

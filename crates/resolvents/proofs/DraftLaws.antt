@@ -8,9 +8,11 @@ use lib.ListN.{length, set, length-set}
 use Rattle.rules.specs.Syntax.{Goal}
 use Rattle.matching.proofs.TableLaws.{part-inside, part-set, part-below, part-above, part-length, part-first, front-set}
 use Rattle.resolvents.specs.Drafts.{childOf, namesOf, orderOf}
-use Rattle.resolvents.specs.Deriving.{IsResolvent}
+use Rattle.resolvents.specs.Deriving.{IsResolvent, IsAttempt}
 use Rattle.resolvents.specs.declared.resolve.Resolved.{Resolved}
 use Rattle.resolvents.specs.declared.resolve.Resolved.the-variants.{Nothing, Child, Oversized}
+use Rattle.resolvents.specs.declared.resolve.Attempt.{Attempt}
+use Rattle.resolvents.specs.declared.resolve.Attempt.the-variants.{Gives, Broken}
 
 pub child-length : (d : List ℕ) → length d ≡ 3584 → length (childOf d) ≡ 1024
 child-length d h = part-length 0 1024 d (omega arith)
@@ -70,10 +72,14 @@ pub child-many : (d d′ : List ℕ) → length d ≡ 3584 → length d′ ≡ l
 child-many d d′ h e = child-length d′ (omega arith) ∙ sym (child-length d h)
 
 -- A derived goal's words stand at the start of the draft.
-pub draft-words : (o : Option Goal) (d : List ℕ) (r : Resolved) → IsResolvent o (childOf d) r → IsResolvent o d r
+draft-words : (o : Option Goal) (d : List ℕ) (r : Resolved) → IsResolvent o (childOf d) r → IsResolvent o d r
 draft-words none d Nothing h = h
 draft-words none d (Child w) h = h
 draft-words none d Oversized h = h
 draft-words (some g) d Nothing h = h
 draft-words (some g) d (Child w) h = (h .0, h .1, sym (part-first 1024 d w (h .1)) ∙ h .2)
 draft-words (some g) d Oversized h = h
+
+pub draft-attempt : (o : Option Goal) (k left : ℕ) (d : List ℕ) (r : Attempt) → IsAttempt o k left (childOf d) r → IsAttempt o k left d r
+draft-attempt o k left d (Gives r rest) h = (h .0, draft-words o d r (h .1))
+draft-attempt o k left d Broken h = h

@@ -9,13 +9,15 @@ use Rattle.rules.specs.Terms.{Terms, _+++_, sizes, renames}
 use Rattle.rules.specs.Syntax.{Literal, Goal, mapGoal, varsGoal}
 use Rattle.rules.specs.Cells.{writeTerms}
 use Rattle.rules.specs.Goals.{pending, markNumber, marked, goalCells, goalWords, writeGoal, appearing, position, renumber}
-use Rattle.rules.specs.Unification.{Unification, fails, spent, solved, applys}
+use Rattle.rules.specs.Unification.{Unification, fails, spent, solved, equations, applys}
 use Rattle.rules.specs.Resolution.{resolved}
 use Rattle.resolvents.specs.Naming.{orderAfter, cellsUnder}
-use Rattle.resolvents.specs.Deriving.{IsResolvent}
-use Rattle.resolvents.specs.Child.{IsChild, DerivedBy}
+use Rattle.resolvents.specs.Deriving.{IsResolvent, IsAttempt}
+use Rattle.resolvents.specs.Child.{IsChild, DerivedBy, AttemptedBy}
 use Rattle.resolvents.specs.declared.resolve.Resolved.{Resolved}
 use Rattle.resolvents.specs.declared.resolve.Resolved.the-variants.{Nothing, Child, Oversized}
+use Rattle.resolvents.specs.declared.resolve.Attempt.{Attempt}
+use Rattle.resolvents.specs.declared.resolve.Attempt.the-variants.{Gives, Broken}
 use Rattle.resolvents.proofs.WroteLaws.{renames-sizes, renames-join, length-under}
 use Rattle.resolvents.proofs.CellTrees.{litTerms, goalTerms, goal-cells, goal-vars, goal-applys, lits-renames}
 
@@ -53,7 +55,7 @@ child-resolvent d A L child (Child w) e a h = (
 )
 child-resolvent d A L child Oversized e a h = omega (arith, h, renumber-words d, ap sizes e)
 
-pub derived-resolvent :
+derived-resolvent :
     (ans : Terms) (ls : List Literal) (child : List ℕ) (r : Resolved) (u : Unification) → DerivedBy u ans (litTerms ls) child r
     → IsResolvent (resolved (record { answers = ans; literals = ls }) u) child r
 unfolding resolved
@@ -62,3 +64,9 @@ derived-resolvent ans ls child r spent h = subst (IsResolvent none child) (sym h
 derived-resolvent ans ls child r (solved k es) h =
     let g : Goal = record { answers = ans; literals = ls } in
     child-resolvent (mapGoal (applys es) g) (applys es ans) (applys es (litTerms ls)) child r (goal-applys es g) refl h
+
+pub attempted-resolvent :
+    (ans : Terms) (ls : List Literal) (left : ℕ) (child : List ℕ) (r : Attempt) (u : Unification) → AttemptedBy u left ans (litTerms ls) child r
+    → IsAttempt (resolved (record { answers = ans; literals = ls }) u) (equations u) left child r
+attempted-resolvent ans ls left child (Gives r rest) u h = (h .0, derived-resolvent ans ls child r u (h .1))
+attempted-resolvent ans ls left child Broken u h = h

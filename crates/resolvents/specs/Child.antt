@@ -4,7 +4,7 @@ use mathlib.Core.Path.{_≡_}
 use mathlib.Core.List.{List, [], _∷_}
 use lib.ListN.{length, getD, take, set}
 use Rattle.rules.specs.Terms.{Terms, _+++_, count, size, sizes}
-use Rattle.rules.specs.Unification.{Unification, fails, spent, solved, applys}
+use Rattle.rules.specs.Unification.{Unification, fails, spent, solved, equations, applys}
 use Rattle.matching.specs.Cells.{from, termAt, Formed}
 use Rattle.matching.specs.Bindings.{elims}
 use Rattle.resolvents.specs.Naming.{within, orderAfter, cellsUnder, namedBy, Named, Wrote}
@@ -12,6 +12,8 @@ use Rattle.resolvents.specs.declared.put.Put.{Put}
 use Rattle.resolvents.specs.declared.put.Put.the-variants.{To, Full}
 use Rattle.resolvents.specs.declared.resolve.Resolved.{Resolved}
 use Rattle.resolvents.specs.declared.resolve.Resolved.the-variants.{Nothing, Child, Oversized}
+use Rattle.resolvents.specs.declared.resolve.Attempt.{Attempt}
+use Rattle.resolvents.specs.declared.resolve.Attempt.the-variants.{Gives, Broken}
 
 -- The terms that the cells from p up to `end` hold, after the eliminations.
 abbrev pub rangeAfter : List ℕ → List ℕ → List ℕ → List ℕ → ℕ → ℕ → ℕ → Terms
@@ -74,6 +76,11 @@ abbrev pub DerivedBy : Unification → Terms → Terms → List ℕ → Resolved
 DerivedBy (fails k) ans ls child r = r ≡ Nothing
 DerivedBy spent ans ls child r = r ≡ Nothing
 DerivedBy (solved k es) ans ls child r = IsChild (applys es ans) (applys es ls) child r
+
+-- The same with what is left of `left` after the equations; or they are more.
+abbrev pub AttemptedBy : Unification → ℕ → Terms → Terms → List ℕ → Attempt → Type 0
+AttemptedBy u left ans ls child (Gives r rest) = (equations u + rest ≡ left) × DerivedBy u ans ls child r
+AttemptedBy u left ans ls child Broken = left < equations u
 
 -- The place after the term at p.
 abbrev pub placeAfter : List ℕ → List ℕ → ℕ → ℕ

@@ -1,5 +1,5 @@
 -- A goal with a selected positive literal, a clause about its predicate, and the derived goal.
-use Prim.Native.Nat.{ℕ, _≤_, _<_}
+use Prim.Native.Nat.{ℕ, _+_, _≤_, _<_}
 use mathlib.Core.Path.{_≡_}
 use mathlib.Core.Option.{Option, none, some}
 use mathlib.Core.List.{List, _∷_, _++_}
@@ -7,6 +7,8 @@ use lib.ListN.{length, take, getD}
 use Rattle.rules.specs.Terms.{Terms}
 use Rattle.rules.specs.Syntax.{Symbol, Literal, pos, Clause, Goal, topGoal}
 use Rattle.rules.specs.Decks.{writeClause}
+use Rattle.rules.specs.Unification.{equations, unify}
+use Rattle.rules.specs.Resolution.{fresh}
 use Rattle.rules.specs.Goals.{goalWords, marked, pending, writeGoal}
 use Rattle.rules.specs.WellFormed.{WfClause}
 use Rattle.matching.specs.Bindings.{Blank}
@@ -15,6 +17,8 @@ use Rattle.resolvents.specs.Drafts.{namesOf}
 use Rattle.resolvents.specs.Selecting.{GoalCells, Spans}
 use Rattle.resolvents.specs.declared.resolve.Resolved.{Resolved}
 use Rattle.resolvents.specs.declared.resolve.Resolved.the-variants.{Nothing, Child, Oversized}
+use Rattle.resolvents.specs.declared.resolve.Attempt.{Attempt}
+use Rattle.resolvents.specs.declared.resolve.Attempt.the-variants.{Gives, Broken}
 
 -- The table and the draft of a run between two clauses: nothing is bound, marked or named, and there is room for every variable.
 pub record Rows (table draft : List ℕ) : Type 0 where
@@ -58,3 +62,12 @@ IsResolvent none child Oversized = ⊥
 IsResolvent (some g) child Nothing = ⊥
 IsResolvent (some g) child (Child w) = (w ≡ goalWords g) × (w ≤ 1024) × (take w child ≡ writeGoal (marked pending g))
 IsResolvent (some g) child Oversized = 1024 < goalWords g
+
+-- The equations that the unification of the literal's terms with a clause's head takes, the failing one included.
+abbrev pub equationsOf : ℕ → Terms → Clause → ℕ
+equationsOf n ts c = equations (unify ts (fresh n (c .arguments)))
+
+-- The same where the unification takes k equations and `left` may be taken: the answer and what is left; or k is more than that.
+abbrev pub IsAttempt : Option Goal → ℕ → ℕ → List ℕ → Attempt → Type 0
+IsAttempt o k left child (Gives r rest) = (k + rest ≡ left) × IsResolvent o child r
+IsAttempt o k left child Broken = left < k

@@ -5,6 +5,7 @@ ghost use mathlib.Core.List.{List};
 ghost use lib.ListN.{length, take};
 ghost use Rattle.rules.specs.Terms.{Terms};
 ghost use Rattle.rules.specs.Syntax.{Symbol, Literal, Clause, Goal};
+ghost use mathlib.Core.Option.{none};
 ghost use Rattle.rules.specs.Unification.{unify};
 ghost use Rattle.rules.specs.Resolution.{resolvent};
 ghost use Rattle.matching.specs.Taking.{takeT};
@@ -13,8 +14,8 @@ ghost use Rattle.matching.specs.Bindings.{Good};
 ghost use Rattle.matching.specs.Tables.{bindOf, trailOf};
 ghost use Rattle.resolvents.specs.Naming.{within, Named, Bounds};
 ghost use Rattle.resolvents.specs.Drafts.{childOf, namesOf, orderOf};
-ghost use Rattle.resolvents.specs.Deriving.{Rows, Calls, About, SomeCall, IsResolvent};
-ghost use Rattle.resolvents.specs.Child.{rangeAfter, literalsAfter, Ranges, Onward, Adds, widthOf, Past, Finished, Unnamed, IsChild, DerivedBy, literalsBefore, Together};
+ghost use Rattle.resolvents.specs.Deriving.{Rows, Calls, About, SomeCall, equationsOf, IsAttempt};
+ghost use Rattle.resolvents.specs.Child.{rangeAfter, literalsAfter, Ranges, Onward, Adds, widthOf, Past, Finished, Unnamed, IsChild, AttemptedBy, literalsBefore, Together};
 use crate::fresh::copy_fresh;
 use crate::put::Put;
 use crate::put::forget;
@@ -31,6 +32,12 @@ pub enum Resolved {
     Nothing,
     Child(usize),
     Oversized,
+}
+
+// What a clause gives, and what is left after the equations of its unification. Or that takes more than was left, and was broken off.
+pub enum Attempt {
+    Gives(Resolved, u32),
+    Broken,
 }
 
 // A goal's cells: how many they are, how many of them are its answer terms, and the selected literal from s up to e.
@@ -155,44 +162,60 @@ fn resolve_cells(
     symbols: &[u16],
     call: Call,
     number: usize,
+    left: u32,
     table: &mut [u16],
     draft: &mut [u16],
-) -> Resolved
+) -> Attempt
     requires { ⌜ Together (now symbols) (now cells) (call .len) (call .answers) (call .s) (call .e) number ⌝ }
     requires { ⌜ Rows (now table) (now draft) ⌝ }
-    ensures { λ r. ⌜ DerivedBy (unify (takeT number (from (now (symbols .entry)) (now (cells .entry)) (call .s + 1))) (takeT number (from (now (symbols .entry)) (now (cells .entry)) (call .len + 1)))) (within (now (symbols .entry)) (now (cells .entry)) 0 (call .answers)) (literalsBefore (now (symbols .entry)) (now (cells .entry)) (call .len) (call .answers) (call .s) (call .e)) (childOf (now (draft .exit))) r ⌝ }
+    ensures { λ r. ⌜ AttemptedBy (unify (takeT number (from (now (symbols .entry)) (now (cells .entry)) (call .s + 1))) (takeT number (from (now (symbols .entry)) (now (cells .entry)) (call .len + 1)))) left (within (now (symbols .entry)) (now (cells .entry)) 0 (call .answers)) (literalsBefore (now (symbols .entry)) (now (cells .entry)) (call .len) (call .answers) (call .s) (call .e)) (childOf (now (draft .exit))) r ⌝ }
     ensures { λ _. ⌜ Rows (now (table .exit)) (now (draft .exit)) ⌝ }
 {
     let s = call.s;
     let len = call.len;
-    match unify_terms(cells, symbols, table, s + 1, len + 1, number) {
-        Outcome::Failed(k) => {
+    match unify_terms(cells, symbols, table, left, s + 1, len + 1, number) {
+        Outcome::Failed(k, rest) => {
             undo(table, k);
-            Resolved::Nothing
+            Attempt::Gives(Resolved::Nothing, rest)
         }
-        Outcome::Unified(k) => {
+        Outcome::Unified(k, rest) => {
             let body = skip(cells, symbols, len);
             let written = write_child(cells, symbols, table, k, call, body, draft);
             undo(table, k);
-            written
+            Attempt::Gives(written, rest)
+        }
+        Outcome::Broken(k) => {
+            undo(table, k);
+            Attempt::Broken
         }
     }
 }
 
-// The derived goal of the call and a clause. The goal's cells stay; the cells behind them are free.
+// A unification that fails at its first equation.
+fn fails_at_once(left: u32) -> Attempt
+    ensures { λ r. ⌜ ((child : List ℕ) → IsAttempt none 1 left child r) ⌝ }
+{
+    if left == 0 {
+        return Attempt::Broken;
+    }
+    Attempt::Gives(Resolved::Nothing, left - 1)
+}
+
+// The derived goal of the call and a clause, with at most `left` equations. The goal's cells stay; the cells behind them are free.
 pub fn resolve_clause(
     symbols: &[u16],
     cells: &mut [u16],
     call: Call,
     n: usize,
     clause: &[u16],
+    left: u32,
     table: &mut [u16],
     draft: &mut [u16],
-) -> Resolved
+) -> Attempt
     requires { ⌜ SomeCall (now symbols) (now cells) (now clause) (call .len) (call .answers) (call .s) (call .e) n ⌝ }
     requires { ⌜ Rows (now table) (now draft) ⌝ }
     requires { ⌜ 8192 ≤ length (now cells) ⌝ }
-    ensures { λ r. ⌜ ((S : List Symbol) (g : Goal) (before : List Literal) (p : ℕ) (ts : Terms) (after : List Literal) (c : Clause) → Calls (now (symbols .entry)) (now (cells .entry)) (call .len) (call .answers) (call .s) (call .e) n S g before p ts after → About (now (clause .entry)) S p c → IsResolvent (resolvent n (g .answers) before ts after c) (now (draft .exit)) r) ⌝ }
+    ensures { λ r. ⌜ ((S : List Symbol) (g : Goal) (before : List Literal) (p : ℕ) (ts : Terms) (after : List Literal) (c : Clause) → Calls (now (symbols .entry)) (now (cells .entry)) (call .len) (call .answers) (call .s) (call .e) n S g before p ts after → About (now (clause .entry)) S p c → IsAttempt (resolvent n (g .answers) before ts after c) (equationsOf n ts c) left (now (draft .exit)) r) ⌝ }
     ensures { λ _. ⌜ Rows (now (table .exit)) (now (draft .exit)) ⌝ }
     ensures { λ _. ⌜ take (call .len) (now (cells .exit)) ≡ take (call .len) (now (cells .entry)) ⌝ }
 {
@@ -201,10 +224,10 @@ pub fn resolve_clause(
     let number = arity_of(symbols, cells[s] as usize);
     if 0 < number {
         if differ(cells[s + 1], clause[1]) {
-            return Resolved::Nothing;
+            return fails_at_once(left);
         }
     }
     copy_fresh(clause, cells, len, n as u16);
     let total = len + clause.len();
-    resolve_cells(&cells[0..total], symbols, call, number, table, draft)
+    resolve_cells(&cells[0..total], symbols, call, number, left, table, draft)
 }

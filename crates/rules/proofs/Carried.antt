@@ -26,7 +26,7 @@ use Rattle.rules.proofs.DeckLaws.{opened-written, query-reads}
 use Rattle.rules.proofs.FirstGoal.{firstGoal-wf}
 use Rattle.rules.proofs.Keeps.{OutcomeHas}
 use Rattle.rules.proofs.GoalsKept.{WellFormed, evaluate-keeps}
-use Rattle.rules.proofs.EndLaws.{Bare, answers-bare, steps-within}
+use Rattle.rules.proofs.EndLaws.{Bare, cost-within, steps-cost, steps-within, answers-bare}
 use Rattle.rules.proofs.Cover.{remaining, evaluate-covers}
 use Rattle.rules.proofs.ThreeCover.{evaluate-stays, evaluate-values}
 use Rattle.rules.proofs.Demand3.{passed, required, run-accepted, left-read}
@@ -195,6 +195,15 @@ module _ (deckWords : List ℕ) (pending parked terms : ℕ) (budget : ℕ) (ent
   unfolding report
   on-within = accepted-on (λ x. x .steps ≤ budget) (λ o a left.
       subst (λ (x : Outcome). x .steps ≤ budget) (sym (a .evaluates)) (steps-within (a .deck) (length (entry .answers)) (length (entry .store)) (a .goals .pending) (a .goals .parked) budget))
+
+  -- No more steps than its cost, and a cost of at most its budget (U6).
+  pub on-spends : (r .steps ≤ r .cost) × (r .cost ≤ budget)
+  unfolding report
+  on-spends = accepted-on (λ x. (x .steps ≤ x .cost) × (x .cost ≤ budget)) (λ o a left.
+      let room : ℕ = length (entry .answers) in
+      let size : ℕ = length (entry .store) in
+      subst (λ (y : Outcome). (y .steps ≤ y .cost) × (y .cost ≤ budget)) (sym (a .evaluates))
+      (steps-cost (a .deck) room size (a .goals .pending) (a .goals .parked) budget, cost-within (a .deck) room size (a .goals .pending) (a .goals .parked) budget))
 
   -- And the next run is let carry on, with the counts returned and as many answer terms.
   pub carries-on : CarriesOn deckWords terms r exit

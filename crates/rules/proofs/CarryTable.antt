@@ -43,11 +43,11 @@ carried c = shown (carriedOn c)
 -- The q(x, f(x)) deck, whose variable is loose: with no goals, and with a word too few.
 abbrev pub carries : List Carry
 carries =
-    carry-on deckN 1 0 0 (3 ∷ 0 ∷ 16385 ∷ []) 6 (shows finished 6 1 0 [])
-    ∷ carry-on deckN 1 0 0 (3 ∷ 0 ∷ 16385 ∷ []) 5 (shows budget 5 0 1 [])
-    ∷ carry-on deckN 1 0 0 (3 ∷ 0 ∷ 16385 ∷ []) 0 (shows budget 0 0 1 [])
-    ∷ carry-on deckN 1 1 0 (3 ∷ 0 ∷ 2 ∷ 8195 ∷ 0 ∷ 16385 ∷ []) 9 (shows finished 2 1 0 (undecided ∷ []))
-    ∷ carry-on deckN 0 0 9 [] 0 (shows finished 0 0 0 [])
+    carry-on deckN 1 0 0 (3 ∷ 0 ∷ 16385 ∷ []) 6 (shows finished 6 1 0 [] 6)
+    ∷ carry-on deckN 1 0 0 (3 ∷ 0 ∷ 16385 ∷ []) 5 (shows budget 5 0 1 [] 5)
+    ∷ carry-on deckN 1 0 0 (3 ∷ 0 ∷ 16385 ∷ []) 0 (shows budget 0 0 1 [] 0)
+    ∷ carry-on deckN 1 1 0 (3 ∷ 0 ∷ 2 ∷ 8195 ∷ 0 ∷ 16385 ∷ []) 9 (shows finished 2 1 0 (undecided ∷ []) 2)
+    ∷ carry-on deckN 0 0 9 [] 0 (shows finished 0 0 0 [] 0)
     ∷ carry-on deckN 1 0 0 (4099 ∷ 0 ∷ 16385 ∷ []) 9 (refused badGoals)
     ∷ carry-on deckN 0 1 0 (3 ∷ 0 ∷ 16385 ∷ []) 9 (refused badGoals)
     ∷ carry-on deckN 0 1 0 (20483 ∷ 0 ∷ 16385 ∷ []) 9 (refused badGoals)
@@ -55,9 +55,9 @@ carries =
     ∷ carry-on deckN 1 0 1 (3 ∷ 0 ∷ 16385 ∷ []) 9 (refused badGoals)
     ∷ carry-on deckN 2 0 0 (3 ∷ 0 ∷ 16385 ∷ []) 9 (refused badGoals)
     ∷ carry-on deckN 18446744073709551615 0 0 (3 ∷ 0 ∷ 16385 ∷ []) 9 (refused badGoals)
-    ∷ carry-on deckL 1 0 1 (5 ∷ 1 ∷ 32768 ∷ 2 ∷ 32768 ∷ []) 9 (shows finished 3 2 0 [])
+    ∷ carry-on deckL 1 0 1 (5 ∷ 1 ∷ 32768 ∷ 2 ∷ 32768 ∷ []) 9 (shows finished 3 2 0 [] 5)
     ∷ carry-on deckL 1 0 1 (5 ∷ 1 ∷ 32769 ∷ 2 ∷ 32769 ∷ []) 9 (refused badGoals)
-    ∷ carry-on deckL 1 0 1 (5 ∷ 1 ∷ 32768 ∷ 16387 ∷ 32768 ∷ []) 9 (shows finished 1 0 0 (floundered ∷ []))
+    ∷ carry-on deckL 1 0 1 (5 ∷ 1 ∷ 32768 ∷ 16387 ∷ 32768 ∷ []) 9 (shows finished 1 0 0 (floundered ∷ []) 1)
     ∷ carry-on deckQ 0 0 0 [] 9 (refused looseClause)
     ∷ carry-on deckQ 1 0 0 (3 ∷ []) 9 (refused badGoals)
     ∷ []
@@ -76,7 +76,7 @@ carries-order = (refl, refl, refl)
 
 -- The words of the floundered goal.
 pub floundered-words :
-    wordsOfRun storeStart (carriedOn (carry-on deckL 1 0 1 (5 ∷ 1 ∷ 32768 ∷ 16387 ∷ 32768 ∷ []) 9 (shows finished 1 0 0 (floundered ∷ []))))
+    wordsOfRun storeStart (carriedOn (carry-on deckL 1 0 1 (5 ∷ 1 ∷ 32768 ∷ 16387 ∷ 32768 ∷ []) 9 (shows finished 1 0 0 (floundered ∷ []) 1)))
     ≡ 4101 ∷ 1 ∷ 32768 ∷ 16387 ∷ 32768 ∷ []
 unfolding rules
 floundered-words = refl

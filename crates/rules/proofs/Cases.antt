@@ -7,16 +7,17 @@ use Rattle.rules.specs.Refusals.{Checked, refused, accepted}
 use Rattle.rules.specs.Evaluation.{Stop, Outcome}
 use Rattle.rules.specs.Run.{run}
 
--- What a run shows: stop, steps, numbers of answers and pending goals, and the marks of the parked goals.
+-- What a run shows: stop, steps, numbers of answers and pending goals, the marks of the parked goals, and the cost.
 pub record Line : Type 0 where
   pub stop : Stop
   pub steps : ℕ
   pub answers : ℕ
   pub pending : ℕ
   pub parked : List Mark
+  pub cost : ℕ
 
-abbrev pub shows : Stop → ℕ → ℕ → ℕ → List Mark → Checked Line
-shows s steps a p marks = accepted (record { stop = s; steps = steps; answers = a; pending = p; parked = marks })
+abbrev pub shows : Stop → ℕ → ℕ → ℕ → List Mark → ℕ → Checked Line
+shows s steps a p marks cost = accepted (record { stop = s; steps = steps; answers = a; pending = p; parked = marks; cost = cost })
 
 abbrev pub marks : List Marked → List Mark
 marks [] = []
@@ -24,7 +25,7 @@ marks (m ∷ ms) = m .mark ∷ marks ms
 
 abbrev pub shown : Checked Outcome → Checked Line
 shown (refused n) = refused n
-shown (accepted o) = shows (o .stop) (o .steps) (length (o .answers)) (length (o .pending)) (marks (o .parked))
+shown (accepted o) = shows (o .stop) (o .steps) (length (o .answers)) (length (o .pending)) (marks (o .parked)) (o .cost)
 
 -- A deck, a query, the budget, the lengths of the answer list and of the store, and what the run shows.
 pub record Case : Type 0 where

@@ -9,7 +9,7 @@ use native.Mathlib.Omega.{arith}
 use lib.ListN.{length, getD}
 use Rattle.rules.specs.Syntax.{Literal, pos, neg, Deck, Goal, varsLiterals}
 use Rattle.rules.specs.Goals.{Marked, unmarked, appearing, variables, queryVariables, firstGoal}
-use Rattle.rules.specs.Evaluation.{finished, Level, zeroth, Ended, ended, succeeded, stopped, evaluateLevel, Outcome, stopOf, outcome, evaluate}
+use Rattle.rules.specs.Evaluation.{finished, Level, zeroth, opening, Ended, ended, succeeded, stopped, evaluateLevel, Outcome, stopOf, outcome, evaluate}
 use Rattle.rules.specs.Meaning.{Inds, inil, icons, Filling, evals, Atoms, Interpretation, Reading, twoValued, Holds, Some, SatisfiesBy, Satisfies, individual, individuals, QueryHolds, CoversBy, Covers, SomeCovers}
 use Rattle.rules.specs.WellFormed.{InOrder}
 use Rattle.rules.proofs.Existence.{Existence, merely, atHand, Into, some-left, some-right, some-split, merely-some}
@@ -63,8 +63,8 @@ pub outcome-sound :
     → OutcomeSound X I J (unmarked gs ++ ms) (evaluate deck answerRoom storeSize gs ms total)
 unfolding evaluate outcome stopOf
 outcome-sound X I J deck way answerRoom storeSize gs ms total =
-    go (evaluateLevel (deck .clauses) answerRoom storeSize 32 zeroth (level gs ms []) total)
-    (level-sound X I J (deck .clauses) way answerRoom storeSize 32 zeroth (level gs ms []) total)
+    go (evaluateLevel (deck .clauses) answerRoom storeSize 32 zeroth (level gs ms []) (opening total))
+    (level-sound X I J (deck .clauses) way answerRoom storeSize 32 zeroth (level gs ms []) (opening total))
   where
     go : (e : Ended) → EndedSound X I J zeroth (level gs ms []) e → OutcomeSound X I J (unmarked gs ++ ms) (outcome total e)
     go (ended succeeded l left) h = absurd h

@@ -11,17 +11,13 @@ use Rattle.rules.specs.Decks.{openDeck, readQuery, checkQuery}
 use Rattle.rules.specs.Run.{carry}
 use Rattle.rules.specs.All.{rules}
 use Rattle.rules.proofs.Table.{deckL, deckQ}
-use Rattle.rules.proofs.MoreRuns.{deckP, deckN, deckC}
+use Rattle.rules.proofs.MoreRuns.{deckP, deckN, deckC, deckF}
 
 abbrev clausesOf : List ℕ → List Clause
 clausesOf ws = elim (openDeck ws) [ refused n ↦ [] | accepted d ↦ d .clauses ]
 
 abbrev queryOf : List ℕ → List ℕ → List Literal
 queryOf ws qs = elim (openDeck ws) [ refused n ↦ [] | accepted d ↦ elim (readQuery d qs) [ refused n ↦ [] | accepted q ↦ q ] ]
-
--- Clause P(x) if P(f(x)). Symbols: a, f, P.
-abbrev deckF : List ℕ
-deckF = 1 ∷ 3 ∷ 8 ∷ 1 ∷ 11 ∷ 5 ∷ 12 ∷ 17 ∷ 0 ∷ 1 ∷ 257 ∷ 0 ∷ 2 ∷ 32768 ∷ 2 ∷ 1 ∷ 32768 ∷ []
 
 -- The q(x, f(x)) deck and Clark's have a loose variable, and so has the floundering query; the others have none.
 pub loose-decks : map (λ ws. tightClauses (clausesOf ws)) (deckL ∷ deckP ∷ deckN ∷ deckF ∷ deckQ ∷ deckC ∷ []) ≡ true ∷ true ∷ true ∷ true ∷ false ∷ false ∷ []

@@ -9,7 +9,7 @@ use mathlib.Core.List.{List, [], _∷_, _++_, append-nil}
 use mathlib.Core.Option.{some}
 use native.Mathlib.Omega.{arith}
 use lib.ListN.{length, drop, length-append, take-append-drop}
-use Rattle.rules.specs.Syntax.{Literal, Deck, varsLiterals}
+use Rattle.rules.specs.Syntax.{Literal, Deck, Goal, varsLiterals}
 use Rattle.rules.specs.Refusals.{Refusal, looseClause, looseQuery, Checked, refused, accepted, andThen, require}
 use Rattle.rules.specs.Decks.{openDeck, readQuery}
 use Rattle.rules.specs.Goals.{Marked, unmarked, writeGoals, readGoals, queryVariables, firstGoal}
@@ -26,7 +26,7 @@ use Rattle.rules.proofs.DeckLaws.{opened-written, query-reads}
 use Rattle.rules.proofs.FirstGoal.{firstGoal-wf}
 use Rattle.rules.proofs.Keeps.{OutcomeHas}
 use Rattle.rules.proofs.GoalsKept.{WellFormed, evaluate-keeps}
-use Rattle.rules.proofs.EndLaws.{Bare, answers-bare}
+use Rattle.rules.proofs.EndLaws.{Bare, cost-within, steps-cost, answers-bare}
 use Rattle.rules.proofs.Cover.{query-covers}
 use Rattle.rules.proofs.ThreeCover.{query-stays, query-values}
 
@@ -139,6 +139,23 @@ pub demand-3-known :
     (deckWords queryWords : List ℕ) (budget : ℕ) (entry exit : Slices) (r : Report) → Ran deckWords queryWords budget entry (accepted r) exit
     → Said Known deckWords queryWords r exit
 demand-3-known = run-says Known (λ deck query ordered answerRoom storeSize total I sat choice many. query-stays query ordered choice many I deck sat answerRoom storeSize total)
+
+-- What a run returns: no more steps than its cost, and a cost of at most its budget (U6).
+pub ran-spends :
+    (deckWords queryWords : List ℕ) (budget : ℕ) (entry exit : Slices) (r : Report) → Ran deckWords queryWords budget entry (accepted r) exit
+    → (r .steps ≤ r .cost) × (r .cost ≤ budget)
+unfolding returned runOn report
+ran-spends deckWords queryWords budget entry exit r ran = go (runOn deckWords queryWords budget entry) refl (ran .returns)
+  where
+    go : (c : Checked Outcome) → runOn deckWords queryWords budget entry ≡ c → accepted r ≡ returned c → (r .steps ≤ r .cost) × (r .cost ≤ budget)
+    go (refused n) e back = absurd (let z : _≡_ {A = ℕ} 0 1 = cc in omega arith)
+    go (accepted o) e back =
+        let a = run-accepted deckWords queryWords budget (length (entry .answers)) (length (entry .store)) (length (entry .scratch)) o e in
+        let first : List Goal = firstGoal (a .query) ∷ [] in
+        let same : report o ≡ r = cc in
+        subst (λ (x : Report). (x .steps ≤ x .cost) × (x .cost ≤ budget)) same
+        (subst (λ (x : Outcome). (x .steps ≤ x .cost) × (x .cost ≤ budget)) (sym (a .evaluates))
+        (steps-cost (a .deck) (length (entry .answers)) (length (entry .store)) first [] budget, cost-within (a .deck) (length (entry .answers)) (length (entry .store)) first [] budget))
 
 -- Where the counts are 0 there are no such goals.
 module _ {Statement : Deck → List Literal → List Marked → List Marked → Type 1} {deckWords queryWords : List ℕ} {r : Report} {exit : Slices} (d : Said Statement deckWords queryWords r exit) where

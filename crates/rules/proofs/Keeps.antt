@@ -9,7 +9,7 @@ use Rattle.rules.specs.Syntax.{Literal, pos, neg, Clause, Deck, Goal}
 use Rattle.rules.specs.Goals.{Mark, pending, floundered, undecided, oversized, deep, Marked, marked}
 use Rattle.rules.specs.Resolution.{nothing, select, resolvents, anyOversized}
 use Rattle.rules.specs.WellFormed.{All}
-use Rattle.rules.specs.Evaluation.{Level, startLevel, withPending, withParked, withAnswer, Place, zeroth, Act, noLiterals, park, derive, decide, question, Next, halt, step, success, ask, Ended, ended, nextOf, evaluateLevel, Outcome, outcome, evaluate}
+use Rattle.rules.specs.Evaluation.{Level, startLevel, withPending, withParked, withAnswer, Place, zeroth, Act, noLiterals, park, derive, decide, question, Next, halt, step, success, ask, Account, opening, Ended, ended, nextOf, evaluateLevel, Outcome, outcome, evaluate}
 use Rattle.rules.proofs.ListLaws.{all-append, all-snoc, all-of, all-in}
 use Rattle.rules.proofs.SelectLaws.{Selected, select-selected}
 use Rattle.rules.proofs.NextLaws.{Acts, bare, flounders, overflows, resolves, bottoms, asks, Ahead, emptied, unpaid, unlisted, unstored, lists, parks, replaces, succeeds, inquires, ahead}
@@ -129,21 +129,21 @@ module _ (J : Invariant) where
 
     ahead-has : {below left : ℕ} {at : Place} {l : Level} {n : Next} → Ahead clauses answerRoom storeSize below at l left n → LevelHas l → NextHas n
     ahead-has (emptied e) h = tt
-    ahead-has (unpaid e) h = tt
-    ahead-has (unlisted e a f) h = tt
-    ahead-has (unstored e) h = tt
-    ahead-has (lists {l} {left} {g} {gs} e a f s) h = let k = first-has e h a in answer-has l h g gs (k .1) (k .0)
-    ahead-has (parks {l = l} {g = g} {gs} {m} e a s) h = let k = first-has e h a in parked-has l h m g gs (k .1) (k .0)
-    ahead-has (replaces {l = l} {gs = gs} {ds} e a s) h = let k = first-has e h a in pending-has l h (ds ++ gs) (all-append (J .pending) ds gs (k .1) (k .0))
-    ahead-has (succeeds e a) h = tt
-    ahead-has (inquires {at} {l} {g = g} {gs} {p} {ts} {others} e a s) h =
+    ahead-has (unpaid e c) h = tt
+    ahead-has (unlisted e c a f) h = tt
+    ahead-has (unstored e c) h = tt
+    ahead-has (lists {l} {left} {g} {gs} e c a f s) h = let k = first-has e h a in answer-has l h g gs (k .1) (k .0)
+    ahead-has (parks {l = l} {g = g} {gs} {m} e c a s) h = let k = first-has e h a in parked-has l h m g gs (k .1) (k .0)
+    ahead-has (replaces {l = l} {gs = gs} {ds} e c a s) h = let k = first-has e h a in pending-has l h (ds ++ gs) (all-append (J .pending) ds gs (k .1) (k .0))
+    ahead-has (succeeds e c a) h = tt
+    ahead-has (inquires {at} {l} {g = g} {gs} {p} {ts} {others} e c a s) h =
         let k = first-has e h a in question-has l h at g gs p ts others (k .1) (k .0)
 
     pub next-has : (below : ℕ) (at : Place) (l : Level) (left : ℕ) → LevelHas l → NextHas (nextOf clauses answerRoom storeSize below at l left)
     next-has below at l left = ahead-has (ahead clauses answerRoom storeSize below at l left)
 
     -- So does a level's run, at any place, and so does each of the levels that it asks.
-    runs-has : {below left : ℕ} {at : Place} {l : Level} {e : Ended} → Runs clauses answerRoom storeSize below at l left e → LevelHas l → EndedHas e
+    runs-has : {below : ℕ} {a : Account} {at : Place} {l : Level} {e : Ended} → Runs clauses answerRoom storeSize below at l a e → LevelHas l → EndedHas e
     runs-has (halts n) h = h
     runs-has (steps n r) h = runs-has r (ahead-has (next-ahead n) h)
     runs-has (wins n) h = h
@@ -152,8 +152,8 @@ module _ (J : Invariant) where
     runs-has (unsettles n a f r) h = runs-has r (ahead-has (next-ahead n) h .3)
     runs-has (interrupts n a f) h = h
 
-    pub level-has : (below : ℕ) (at : Place) (l : Level) (left : ℕ) → LevelHas l → EndedHas (evaluateLevel clauses answerRoom storeSize below at l left)
-    level-has below at l left = runs-has (runs clauses answerRoom storeSize below at l left)
+    pub level-has : (below : ℕ) (at : Place) (l : Level) (a : Account) → LevelHas l → EndedHas (evaluateLevel clauses answerRoom storeSize below at l a)
+    level-has below at l a = runs-has (runs clauses answerRoom storeSize below at l a)
 
 outcome-has : (J : Invariant) (total : ℕ) (e : Ended) → EndedHas J e → OutcomeHas J (outcome total e)
 unfolding outcome
@@ -165,8 +165,8 @@ pub evaluate-has :
     → OutcomeHas J (evaluate deck answerRoom storeSize gs ms total)
 unfolding evaluate
 evaluate-has J deck kept answerRoom storeSize gs ms total h k =
-    outcome-has J total (evaluateLevel (deck .clauses) answerRoom storeSize 32 zeroth start total)
-    (level-has J (deck .clauses) kept answerRoom storeSize 32 zeroth start total (record { pending = h; parked = k; answers = tt }))
+    outcome-has J total (evaluateLevel (deck .clauses) answerRoom storeSize 32 zeroth start (opening total))
+    (level-has J (deck .clauses) kept answerRoom storeSize 32 zeroth start (opening total) (record { pending = h; parked = k; answers = tt }))
   where
     start : Level
     start = record { pending = gs; parked = ms; answers = [] }

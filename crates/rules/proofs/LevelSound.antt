@@ -11,11 +11,12 @@ use lib.Dec.{leb}
 use Rattle.rules.specs.Terms.{Terms, nil}
 use Rattle.rules.specs.Syntax.{Literal, pos, neg, Clause, Goal}
 use Rattle.rules.specs.Goals.{Mark, undecided, Marked, marked, goalWords, wordsOf}
-use Rattle.rules.specs.Resolution.{Selection, nothing, positive, negative, select, resolvents, anyOversized}
-use Rattle.rules.specs.Evaluation.{finished, budget, answers, store, Level, startLevel, withPending, withParked, withAnswer, Place, zeroth, deeper, held, Act, noLiterals, park, derive, decide, deriveAct, decideAct, selectedAct, literalsAct, actOf, Question, question, Next, halt, step, success, ask, answerStep, actStep, unlessOver, checkStore, succeeded, stopped, Ended, ended, Verdict, succeeds, fails, unsettled, interrupted, Reply, reply, verdictOf, replyOf, close, proceed, decideBy, unasked, nextFrom, nextOf, turn, evaluateLevel}
+use Rattle.rules.specs.Resolution.{Selection, nothing, positive, negative, select, resolvents, anyOversized, costOf}
+use Rattle.rules.specs.Evaluation.{finished, budget, answers, store, Level, startLevel, withPending, withParked, withAnswer, Place, zeroth, deeper, held, Act, noLiterals, park, derive, decide, deriveAct, decideAct, selectedAct, literalsAct, actOf, Question, question, Next, halt, step, success, ask, answerStep, actStep, unlessOver, checkStore, Account, pay, succeeded, stopped, Ended, ended, Verdict, succeeds, fails, unsettled, interrupted, Reply, reply, verdictOf, replyOf, close, proceed, decideBy, unasked, nextFrom, nextOf, turn, evaluateLevel}
 use Rattle.rules.specs.Meaning.{Inds, node, inil, Filling, evals, Reading, Holds, Some, CoversBy}
 use Rattle.rules.proofs.Existence.{Existence, Into, into-same, into-then, some-left, some-right, some-split}
 use Rattle.rules.proofs.SelectLaws.{Selected, select-selected}
+use Rattle.rules.proofs.NextLaws.{either}
 use Rattle.rules.proofs.Values.{evals-on, holds-append}
 use Rattle.rules.proofs.ResolventSound.{goalOf, OneWay, resolvents-sound}
 
@@ -245,9 +246,10 @@ module _ (X : Existence) (I J : Reading) where
       → NextSound at (level gs ms hs) (nextOf clauses answerRoom storeSize below at (level gs ms hs) left)
   unfolding nextOf nextFrom
   next-sound clauses way answerRoom storeSize below at [] ms hs left = λ k. refl
-  next-sound clauses way answerRoom storeSize below at (g ∷ gs) ms hs zero = λ k. absurd (budget-not k)
-  next-sound clauses way answerRoom storeSize below at (g ∷ gs) ms hs (suc left) =
-      check-sound storeSize at (level (g ∷ gs) ms hs) _ (act-step-sound g gs ms hs answerRoom at (actOf clauses below g) (act-sound X I J clauses way below g))
+  next-sound clauses way answerRoom storeSize below at (g ∷ gs) ms hs left =
+      either (NextSound at (level (g ∷ gs) ms hs)) (leb (costOf clauses g) left) _ (halt budget)
+      (λ e. check-sound storeSize at (level (g ∷ gs) ms hs) _ (act-step-sound g gs ms hs answerRoom at (actOf clauses below g) (act-sound X I J clauses way below g)))
+      (λ e k. absurd (budget-not k))
 
   -- WHAT AN END SAYS OF THE LEVEL THAT IT BEGAN AS
   abbrev pub EndedSound : Place → Level → Ended → Type 0
@@ -274,7 +276,7 @@ module _ (X : Existence) (I J : Reading) where
   after zeroth l l′ s (ended (stopped w) m left) h = ((λ choice. into-then X (Open I choice) (Open J choice) l l′ m (s .0 choice) (h .0 .0 choice), tt), h .1)
   after (deeper outer) l l′ s (ended (stopped w) m left) h = ((λ choice. into-then X (Open I choice) (Open J choice) l l′ m (s .0 choice) (h .0 .0 choice), h .0 .1 ∙ s .1), h .1)
 
-  module _ (again : Level → ℕ → Ended) (at : Place) (ok : (l : Level) (left : ℕ) → EndedSound at l (again l left)) where
+  module _ (again : Level → Account → Ended) (at : Place) (ok : (l : Level) (left : Account) → EndedSound at l (again l left)) where
     close-sound : (l : Level) (q : Question) (r : Reply) → QuestionSound at l q → ReplySound (q .goal) r → EndedSound at l (close again l q r)
     unfolding close
     close-sound l q (reply succeeds left) s d = after at l (q .onSuccess) (s .onSuccess d) (again (q .onSuccess) left) (ok (q .onSuccess) left)
@@ -283,13 +285,13 @@ module _ (X : Existence) (I J : Reading) where
     close-sound l q (reply (interrupted w) left) s d = (same-level at l, λ k. absurd (d k))
 
     proceed-sound :
-        (decides : Question → ℕ → Reply) → ((q : Question) (left : ℕ) → ReplySound (q .goal) (decides q left)) → (l : Level) (left : ℕ) (next : Next) → NextSound at l next
-        → EndedSound at l (proceed again decides l left next)
+        (decides : Question → Account → Reply) → ((q : Question) (left : Account) → ReplySound (q .goal) (decides q left)) → (l : Level) (left paid : Account) (next : Next) → NextSound at l next
+        → EndedSound at l (proceed again decides l left paid next)
     unfolding proceed
-    proceed-sound decides d l left (halt s) n = (same-level at l, n)
-    proceed-sound decides d l left (step l′) n = after at l l′ n (again l′ (left - 1)) (ok l′ (left - 1))
-    proceed-sound decides d l left success n = n
-    proceed-sound decides d l left (ask q) n = close-sound l q (decides q (left - 1)) n (d q (left - 1))
+    proceed-sound decides d l left paid (halt s) n = (same-level at l, n)
+    proceed-sound decides d l left paid (step l′) n = after at l l′ n (again l′ paid) (ok l′ paid)
+    proceed-sound decides d l left paid success n = n
+    proceed-sound decides d l left paid (ask q) n = close-sound l q (decides q paid) n (d q paid)
 
   -- A level that was started on one goal decides it.
   start-open : (choice : Inds) (g : Goal) → Open J choice (startLevel g) → CoversBy J choice g
@@ -323,29 +325,29 @@ module _ (X : Existence) (I J : Reading) where
 -- THE LEVEL, from any goals, whatever the limits and wherever it stops
 module _ (X : Existence) (I J : Reading) (clauses : List Clause) (way : OneWay X I J clauses) (answerRoom storeSize : ℕ) where
   pub turn-sound :
-      (decides : Question → ℕ → Reply) → ((q : Question) (left : ℕ) → ReplySound X I J (q .goal) (decides q left))
-      → (below : ℕ) (at : Place) (fuel : ℕ) (l : Level) (left : ℕ) → EndedSound X I J at l (turn clauses answerRoom storeSize decides below at fuel l left)
+      (decides : Question → Account → Reply) → ((q : Question) (left : Account) → ReplySound X I J (q .goal) (decides q left))
+      → (below : ℕ) (at : Place) (fuel : ℕ) (l : Level) (left : Account) → EndedSound X I J at l (turn clauses answerRoom storeSize decides below at fuel l left)
   unfolding turn
   turn-sound decides d below at zero l left = (same-level X I J at l, λ k. absurd (budget-not X I J k))
   turn-sound decides d below at (suc fuel) l left =
-      proceed-sound X I J (turn clauses answerRoom storeSize decides below at fuel) at (turn-sound decides d below at fuel) decides d l left (nextOf clauses answerRoom storeSize below at l left)
-      (next-sound X I J clauses way answerRoom storeSize below at (l .pending) (l .parked) (l .answers) left)
+      proceed-sound X I J (turn clauses answerRoom storeSize decides below at fuel) at (turn-sound decides d below at fuel) decides d l left (pay clauses l left) (nextOf clauses answerRoom storeSize below at l (left .left))
+      (next-sound X I J clauses way answerRoom storeSize below at (l .pending) (l .parked) (l .answers) (left .left))
 
   decides-sound :
-      (evaluates : Place → Level → ℕ → Ended) → ((at : Place) (l : Level) (left : ℕ) → EndedSound X I J at l (evaluates at l left))
-      → (q : Question) (left : ℕ) → ReplySound X I J (q .goal) (decideBy evaluates q left)
+      (evaluates : Place → Level → Account → Ended) → ((at : Place) (l : Level) (left : Account) → EndedSound X I J at l (evaluates at l left))
+      → (q : Question) (left : Account) → ReplySound X I J (q .goal) (decideBy evaluates q left)
   unfolding decideBy
   decides-sound evaluates ok q left = reply-sound X I J (q .heldOutside) (q .goal) _ (ok (deeper (q .heldOutside)) (startLevel (q .goal)) left)
 
-  pub level-sound : (below : ℕ) (at : Place) (l : Level) (left : ℕ) → EndedSound X I J at l (evaluateLevel clauses answerRoom storeSize below at l left)
+  pub level-sound : (below : ℕ) (at : Place) (l : Level) (left : Account) → EndedSound X I J at l (evaluateLevel clauses answerRoom storeSize below at l left)
   unfolding evaluateLevel unasked
-  level-sound zero at l left = turn-sound unasked (λ q m. tt) zero at (suc left) l left
+  level-sound zero at l left = turn-sound unasked (λ q m. tt) zero at (suc (left .left)) l left
   level-sound (suc below) at l left =
-      turn-sound (decideBy (evaluateLevel clauses answerRoom storeSize below)) (decides-sound (evaluateLevel clauses answerRoom storeSize below) (level-sound below)) (suc below) at (suc left) l left
+      turn-sound (decideBy (evaluateLevel clauses answerRoom storeSize below)) (decides-sound (evaluateLevel clauses answerRoom storeSize below) (level-sound below)) (suc below) at (suc (left .left)) l left
 
   -- Clark's theorem 2, for a new level on an atom: if it succeeds the atom is in J under some filling of its variables (it has none where a
   -- level starts), and if it finishes with nothing parked the atom is in I under none.
-  module _ (below outer : ℕ) (p : ℕ) (ts : Terms) (left m : ℕ) where
+  module _ (below outer : ℕ) (p : ℕ) (ts : Terms) (left m : Account) where
     abbrev atom : Goal
     atom = goalOf nil (pos p ts ∷ [])
 

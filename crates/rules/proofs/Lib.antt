@@ -2,6 +2,7 @@
 pub mod Cases
 pub mod Table
 pub mod MoreRuns
+pub mod CostRuns
 -- Lists and terms.
 pub mod ListLaws
 pub mod TermLaws
@@ -45,6 +46,7 @@ pub mod TightLaws
 pub mod TightRuns
 pub mod FlatLaws
 pub mod DeckCases
+pub mod GrowingRun
 -- Three values.
 pub mod ValueLaws
 pub mod Fitting

@@ -30,35 +30,35 @@ text (string._∷_ c s) = code c ∷ text s
 -- 1. THE LISTING.
 
 -- L, 3 1 through the program, and p if not p: `no` and `open` exchanged, `no` with a goal parked.
-pub says-no : program (some bytesL) (3 ∷ 0 ∷ 1 ∷ 0 ∷ []) ≡ text "no\nfinished 1 0 0 0\n"
+pub says-no : program (some bytesL) (3 ∷ 0 ∷ 1 ∷ 0 ∷ []) ≡ text "no\nfinished 1 0 0 0 2\n"
 unfolding rules
 says-no = refl
 
-pub says-open : listing (outcomeOf (case deckP (0 ∷ []) 99 (shows finished 66 0 0 []))) ≡ text "open\nfinished 66 0 0 1\n"
+pub says-open : listing (outcomeOf (case deckP (0 ∷ []) 99 (shows finished 66 0 0 [] 66))) ≡ text "open\nfinished 66 0 0 1 66\n"
 unfolding rules
 says-open = refl
 
 -- p if not c; p; c if not c: `all` with a goal parked, and the line of an answer without terms.
--- The ends of deck L with budget 2, with room for one answer, and with budget 3: `all` with a spent budget or a full answer list; the stops' words.
+-- The ends of deck L with budget 4, with room for one answer, and with budget 5: `all` with a spent budget or a full answer list; the stops' words.
 -- A goal whose children do not fit: `no` with a full store.
 pub verdicts :
     map (λ c. listing (outcomeOf c))
-    (case deckM (0 ∷ []) 99 (shows finished 67 1 0 [])
-    ∷ small deckL (2 ∷ 32768 ∷ []) 2 9 (shows budget 2 1 1 [])
-    ∷ small deckL (2 ∷ 32768 ∷ []) 9 5 (shows answers 2 1 1 [])
-    ∷ small deckL (2 ∷ 32768 ∷ []) 3 6 (shows finished 3 2 0 [])
-    ∷ small deckE (2 ∷ 32768 ∷ 3 ∷ nested 400) 9 9 (shows store 0 0 1 [])
+    (case deckM (0 ∷ []) 99 (shows finished 67 1 0 [] 67)
+    ∷ small deckL (2 ∷ 32768 ∷ []) 4 9 (shows budget 2 1 1 [] 4)
+    ∷ small deckL (2 ∷ 32768 ∷ []) 9 5 (shows answers 2 1 1 [] 4)
+    ∷ small deckL (2 ∷ 32768 ∷ []) 5 6 (shows finished 3 2 0 [] 5)
+    ∷ small deckE (2 ∷ 32768 ∷ 3 ∷ nested 400) 9 9 (shows store 0 0 1 [] 0)
     ∷ [])
-    ≡ text "open\nfinished 67 1 0 1\ntrue\n"
-    ∷ text "open\nbudget 2 1 1 0\ns0\n"
-    ∷ text "open\nanswers 2 1 1 0\ns0\n"
-    ∷ text "all\nfinished 3 2 0 0\ns0\ns1\n"
-    ∷ text "open\nstore 0 0 1 0\n"
+    ≡ text "open\nfinished 67 1 0 1 67\ntrue\n"
+    ∷ text "open\nbudget 2 1 1 0 4\ns0\n"
+    ∷ text "open\nanswers 2 1 1 0 4\ns0\n"
+    ∷ text "all\nfinished 3 2 0 0 5\ns0\ns1\n"
+    ∷ text "open\nstore 0 0 1 0 0\n"
     ∷ []
 unfolding rules
 verdicts = refl
 
--- Each of the five numbers in its place, with inner zeros; brackets, commas, a space between terms.
+-- Each of the six numbers in its place, with inner zeros; brackets, commas, a space between terms.
 abbrev pub bare : Goal
 bare = record { answers = nil; literals = [] }
 
@@ -66,11 +66,12 @@ pub all-marks :
     listing (accepted (record {
       stop = budget;
       steps = 100305;
+      cost = 2000040;
       answers = record { answers = cons (app 30 (cons (app 0 nil) (cons (var 0) nil))) (cons (var 10) nil); literals = [] } ∷ bare ∷ [];
       pending = bare ∷ bare ∷ bare ∷ [];
       parked = [];
     }))
-    ≡ text "open\nbudget 100305 2 3 0\ns30(s0,v0) v10\ntrue\n"
+    ≡ text "open\nbudget 100305 2 3 0 2000040\ns30(s0,v0) v10\ntrue\n"
 unfolding rules
 all-marks = refl
 

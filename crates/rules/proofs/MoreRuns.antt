@@ -87,10 +87,15 @@ deckD =
     ∷ 0 ∷ 6 ∷ 11
     ∷ 3 ∷ 0 ∷ 4 ∷ 32768 ∷ 5 ∷ 32768 ∷ 4 ∷ 1 ∷ 32768 ∷ 4 ∷ 32768 ∷ 5 ∷ 2 ∷ 32768 ∷ 5 ∷ 32768 ∷ []
 
+-- Clause P(x) if P(f(x)). Symbols: a, f, P.
+abbrev pub deckF : List ℕ
+deckF = 1 ∷ 3 ∷ 8 ∷ 1 ∷ 11 ∷ 5 ∷ 12 ∷ 17 ∷ 0 ∷ 1 ∷ 257 ∷ 0 ∷ 2 ∷ 32768 ∷ 2 ∷ 1 ∷ 32768 ∷ []
+
 -- p if not p: level 32 parks with mark 4, and each level above it with mark 2.
 -- r(y) has the answer f(a): the clause's variable is another than the query's.
 -- q(y, y) over q(x, f(x)) if e(x): no x is f(x).
--- p(f(..)) with a child over 1,024 words and a sister that would be an answer: the goal itself is parked.
+-- p(f(..)) with a child over 1,024 words and a sister that would be an answer: the goal itself is parked, and all the equations are paid.
+-- The same with one less than that step costs: it is not taken, and nothing is parked.
 -- Two ends and room for one: stop "answers".
 -- Three children of 405 words and a store of 1,024: stop "store".
 -- A parked goal of 344 words, and children of 688 words together: only the parked words make it too much.
@@ -101,18 +106,19 @@ deckD =
 -- Clark's own deck: refused, for its loose variables.
 abbrev pub more : List Case
 more =
-    case deckP (0 ∷ []) 100000 (shows finished 66 0 0 (undecided ∷ []))
-    ∷ case deckR (1 ∷ 32768 ∷ []) 100000 (shows finished 3 1 0 [])
-    ∷ case deckS (1 ∷ 32768 ∷ 32768 ∷ []) 100000 (shows finished 1 0 0 [])
-    ∷ case deckO (2 ∷ nested 100) 100000 (shows finished 1 0 0 (oversized ∷ []))
-    ∷ record { deck = deckL; query = 2 ∷ 32768 ∷ []; budget = 9; answerRoom = 3; storeSize = 1024; expected = shows answers 2 1 1 [] }
-    ∷ record { deck = deckE; query = 2 ∷ 32768 ∷ 3 ∷ nested 400; budget = 9; answerRoom = 3; storeSize = 1024; expected = shows store 0 0 1 [] }
-    ∷ record { deck = deckK; query = 2 ∷ nested 340; budget = 9; answerRoom = 0; storeSize = 1024; expected = shows store 2 0 1 (oversized ∷ []) }
-    ∷ record { deck = deckE; query = 4 ∷ 0 ∷ 16387 ∷ nested 479; budget = 9; answerRoom = 0; storeSize = 1024; expected = shows store 1 0 2 [] }
-    ∷ record { deck = deckE; query = 16389 ∷ nested 340; budget = 9; answerRoom = 9; storeSize = 1024; expected = shows store 2 0 1 [] }
-    ∷ case deckN (0 ∷ []) 7 (shows finished 7 1 0 [])
-    ∷ case deckN (0 ∷ []) 5 (shows budget 5 0 1 [])
-    ∷ case deckD (3 ∷ 0 ∷ []) 100 (shows finished 3 0 0 [])
+    case deckP (0 ∷ []) 100000 (shows finished 66 0 0 (undecided ∷ []) 66)
+    ∷ case deckR (1 ∷ 32768 ∷ []) 100000 (shows finished 3 1 0 [] 5)
+    ∷ case deckS (1 ∷ 32768 ∷ 32768 ∷ []) 100000 (shows finished 1 0 0 [] 3)
+    ∷ case deckO (2 ∷ nested 100) 100000 (shows finished 1 0 0 (oversized ∷ []) 103)
+    ∷ case deckO (2 ∷ nested 100) 102 (shows budget 0 0 1 [] 0)
+    ∷ record { deck = deckL; query = 2 ∷ 32768 ∷ []; budget = 9; answerRoom = 3; storeSize = 1024; expected = shows answers 2 1 1 [] 4 }
+    ∷ record { deck = deckE; query = 2 ∷ 32768 ∷ 3 ∷ nested 400; budget = 9; answerRoom = 3; storeSize = 1024; expected = shows store 0 0 1 [] 0 }
+    ∷ record { deck = deckK; query = 2 ∷ nested 340; budget = 9; answerRoom = 0; storeSize = 1024; expected = shows store 2 0 1 (oversized ∷ []) 5 }
+    ∷ record { deck = deckE; query = 4 ∷ 0 ∷ 16387 ∷ nested 479; budget = 9; answerRoom = 0; storeSize = 1024; expected = shows store 1 0 2 [] 3 }
+    ∷ record { deck = deckE; query = 16389 ∷ nested 340; budget = 9; answerRoom = 9; storeSize = 1024; expected = shows store 2 0 1 [] 3 }
+    ∷ case deckN (0 ∷ []) 7 (shows finished 7 1 0 [] 7)
+    ∷ case deckN (0 ∷ []) 5 (shows budget 5 0 1 [] 5)
+    ∷ case deckD (3 ∷ 0 ∷ []) 100 (shows finished 3 0 0 [] 6)
     ∷ case deckC (3 ∷ 0 ∷ []) 100 (refused looseClause)
     ∷ []
 
@@ -121,16 +127,16 @@ unfolding rules
 more-runs = refl
 
 -- Where the budget ends on a deeper level, the level 0 goal is as it was, its negative literal included.
-pub cut-goal : wordsOfRun storeStart (outcomeOf (case deckN (0 ∷ []) 5 (shows budget 5 0 1 []))) ≡ 3 ∷ 0 ∷ 16385 ∷ []
+pub cut-goal : wordsOfRun storeStart (outcomeOf (case deckN (0 ∷ []) 5 (shows budget 5 0 1 [] 5))) ≡ 3 ∷ 0 ∷ 16385 ∷ []
 unfolding rules
 cut-goal = refl
 
 -- Where a child is oversized, the goal itself is parked, and not the child.
-pub oversized-goal : wordsOfRun storeStart (outcomeOf (case deckO (2 ∷ nested 100) 9 (shows finished 1 0 0 (oversized ∷ [])))) ≡ 12392 ∷ 0 ∷ 2 ∷ nested 100
+pub oversized-goal : wordsOfRun storeStart (outcomeOf (case deckO (2 ∷ nested 100) 103 (shows finished 1 0 0 (oversized ∷ []) 103))) ≡ 12392 ∷ 0 ∷ 2 ∷ nested 100
 unfolding rules
 oversized-goal = refl
 
 -- The answer f(a) of r(y).
-pub fresh-answer : wordsOfRun (λ o. answersAfter o []) (outcomeOf (case deckR (1 ∷ 32768 ∷ []) 9 (shows finished 3 1 0 []))) ≡ 4 ∷ 2 ∷ 0 ∷ 3 ∷ []
+pub fresh-answer : wordsOfRun (λ o. answersAfter o []) (outcomeOf (case deckR (1 ∷ 32768 ∷ []) 9 (shows finished 3 1 0 [] 5))) ≡ 4 ∷ 2 ∷ 0 ∷ 3 ∷ []
 unfolding rules
 fresh-answer = refl

@@ -59,16 +59,16 @@ deckM = 1 ∷ 2 ∷ 8 ∷ 3 ∷ 10 ∷ 5 ∷ 13 ∷ 18 ∷ 256 ∷ 256 ∷ 0 ∷
 -- not drawn(a): the goal is dropped.
 abbrev pub searches : List Row
 searches =
-    row (case deckA (3 ∷ 32768 ∷ []) 9 (shows finished 5 3 0 [])) (words (3 ∷ 1 ∷ 0 ∷ 3 ∷ 1 ∷ 1 ∷ 3 ∷ 1 ∷ 2 ∷ []) [])
-    ∷ row (case deckB (16387 ∷ 32768 ∷ 0 ∷ 2 ∷ 3 ∷ 32768 ∷ []) 1 (shows budget 1 0 1 [])) (words [] (9 ∷ 1 ∷ 32768 ∷ 16387 ∷ 32768 ∷ 2 ∷ 3 ∷ 32768 ∷ 1 ∷ []))
-    ∷ row (case deckB (16387 ∷ 32768 ∷ 16385 ∷ 0 ∷ 3 ∷ 32768 ∷ []) 2 (shows budget 2 0 1 [])) (words [] (8 ∷ 1 ∷ 32768 ∷ 16387 ∷ 32768 ∷ 0 ∷ 3 ∷ 32768 ∷ []))
-    ∷ row (case deckF (2 ∷ nested 100) 3 (shows budget 3 0 1 (oversized ∷ oversized ∷ [])))
+    row (case deckA (3 ∷ 32768 ∷ []) 9 (shows finished 5 3 0 [] 9)) (words (3 ∷ 1 ∷ 0 ∷ 3 ∷ 1 ∷ 1 ∷ 3 ∷ 1 ∷ 2 ∷ []) [])
+    ∷ row (case deckB (16387 ∷ 32768 ∷ 0 ∷ 2 ∷ 3 ∷ 32768 ∷ []) 1 (shows budget 1 0 1 [] 1)) (words [] (9 ∷ 1 ∷ 32768 ∷ 16387 ∷ 32768 ∷ 2 ∷ 3 ∷ 32768 ∷ 1 ∷ []))
+    ∷ row (case deckB (16387 ∷ 32768 ∷ 16385 ∷ 0 ∷ 3 ∷ 32768 ∷ []) 2 (shows budget 2 0 1 [] 2)) (words [] (8 ∷ 1 ∷ 32768 ∷ 16387 ∷ 32768 ∷ 0 ∷ 3 ∷ 32768 ∷ []))
+    ∷ row (case deckF (2 ∷ nested 100) 8 (shows budget 3 0 1 (oversized ∷ oversized ∷ []) 8))
     (words [] ((104 ∷ 0 ∷ 2 ∷ nested 100) ++ ((12392 ∷ 0 ∷ 3 ∷ nested 100) ++ (12392 ∷ 0 ∷ 4 ∷ nested 100))))
-    ∷ row (case deckH (2 ∷ 32768 ∷ []) 4 (shows budget 4 0 2 [])) (words [] (3 ∷ 1 ∷ 0 ∷ 5 ∷ 1 ∷ 1 ∷ 16388 ∷ 1 ∷ []))
-    ∷ row (case deckX (0 ∷ 32768 ∷ 32769 ∷ []) 1 (shows budget 1 0 1 [])) (words [] (7 ∷ 2 ∷ 32768 ∷ 32769 ∷ 1 ∷ 32769 ∷ 32768 ∷ []))
-    ∷ row (case deckS (1 ∷ 32768 ∷ 32769 ∷ []) 9 (shows finished 3 1 0 [])) (words (5 ∷ 3 ∷ 3 ∷ 0 ∷ 3 ∷ []) [])
-    ∷ row (case deckM (16384 ∷ []) 99 (shows finished 66 0 0 [])) (words [] [])
-    ∷ row (case deckL (16387 ∷ 0 ∷ []) 9 (shows finished 3 0 0 [])) (words [] [])
+    ∷ row (case deckH (2 ∷ 32768 ∷ []) 7 (shows budget 4 0 2 [] 7)) (words [] (3 ∷ 1 ∷ 0 ∷ 5 ∷ 1 ∷ 1 ∷ 16388 ∷ 1 ∷ []))
+    ∷ row (case deckX (0 ∷ 32768 ∷ 32769 ∷ []) 3 (shows budget 1 0 1 [] 3)) (words [] (7 ∷ 2 ∷ 32768 ∷ 32769 ∷ 1 ∷ 32769 ∷ 32768 ∷ []))
+    ∷ row (case deckS (1 ∷ 32768 ∷ 32769 ∷ []) 9 (shows finished 3 1 0 [] 6)) (words (5 ∷ 3 ∷ 3 ∷ 0 ∷ 3 ∷ []) [])
+    ∷ row (case deckM (16384 ∷ []) 99 (shows finished 66 0 0 [] 66)) (words [] [])
+    ∷ row (case deckL (16387 ∷ 0 ∷ []) 9 (shows finished 3 0 0 [] 4)) (words [] [])
     ∷ []
 
 pub search-runs : map found searches ≡ map wanted searches

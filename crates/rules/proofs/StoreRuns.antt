@@ -53,7 +53,7 @@ small deck query total room expected = record { deck = deck; query = query; budg
 -- A child of 1,025 words parks its goal: a limit of 1,025.
 -- Children of 341, 341 and 342 words: a store exactly full counted as over.
 -- Children of 341, 341 and 343 words: one word too many let through.
--- The same without budget: the store looked at before the budget.
+-- The same with one less than the step costs: the store looked at before the budget.
 -- A goal of 386 words outside, and on level 1 goals of 2, 318 and 318 words, of which the first has no literals: a success refused where the store is full.
 -- A goal of 387 words outside: the words of outer levels not held.
 -- Two goals of 342 words and a new level's goal of 340: a new level refused where its goal just fits.
@@ -62,21 +62,21 @@ small deck query total room expected = record { deck = deck; query = query; budg
 -- through, the answer list looked at before the budget.
 abbrev pub bounds : List Row
 bounds =
-    row (small deckC (2 ∷ nested 339) 9 0 (shows finished 2 0 0 [])) (words [] [])
-    ∷ row (small deckC (4 ∷ nested 339) 9 0 (shows finished 1 0 0 (oversized ∷ []))) (words [] (12631 ∷ 0 ∷ 4 ∷ nested 339))
-    ∷ row (small deckT (2 ∷ 0 ∷ 4 ∷ nested 337) 1 0 (shows budget 1 0 3 []))
+    row (small deckC (2 ∷ nested 339) 9 0 (shows finished 2 0 0 [] 3)) (words [] [])
+    ∷ row (small deckC (4 ∷ nested 339) 9 0 (shows finished 1 0 0 (oversized ∷ []) 2)) (words [] (12631 ∷ 0 ∷ 4 ∷ nested 339))
+    ∷ row (small deckT (2 ∷ 0 ∷ 4 ∷ nested 337) 4 0 (shows budget 1 0 3 [] 4))
     (words [] ((341 ∷ 0 ∷ 4 ∷ nested 337) ++ ((341 ∷ 0 ∷ 4 ∷ nested 337) ++ (342 ∷ 0 ∷ 4 ∷ (nested 337 ++ (5 ∷ []))))))
-    ∷ row (small deckT (3 ∷ 0 ∷ 4 ∷ nested 337) 1 0 (shows store 0 0 1 [])) (words [] (343 ∷ 0 ∷ 3 ∷ 0 ∷ 4 ∷ nested 337))
-    ∷ row (small deckT (3 ∷ 0 ∷ 4 ∷ nested 337) 0 0 (shows budget 0 0 1 [])) (words [] (343 ∷ 0 ∷ 3 ∷ 0 ∷ 4 ∷ nested 337))
-    ∷ row (small deckU (16386 ∷ (nested 20 ++ (4 ∷ nested 360))) 9 0 (shows finished 3 0 0 [])) (words [] [])
-    ∷ row (small deckU (16386 ∷ (nested 20 ++ (4 ∷ (nested 360 ++ (5 ∷ []))))) 9 0 (shows store 1 0 1 []))
+    ∷ row (small deckT (3 ∷ 0 ∷ 4 ∷ nested 337) 4 0 (shows store 0 0 1 [] 0)) (words [] (343 ∷ 0 ∷ 3 ∷ 0 ∷ 4 ∷ nested 337))
+    ∷ row (small deckT (3 ∷ 0 ∷ 4 ∷ nested 337) 3 0 (shows budget 0 0 1 [] 0)) (words [] (343 ∷ 0 ∷ 3 ∷ 0 ∷ 4 ∷ nested 337))
+    ∷ row (small deckU (16386 ∷ (nested 20 ++ (4 ∷ nested 360))) 26 0 (shows finished 3 0 0 [] 26)) (words [] [])
+    ∷ row (small deckU (16386 ∷ (nested 20 ++ (4 ∷ (nested 360 ++ (5 ∷ []))))) 26 0 (shows store 1 0 1 [] 1))
     (words [] (387 ∷ 0 ∷ 16386 ∷ (nested 20 ++ (4 ∷ (nested 360 ++ (5 ∷ []))))))
-    ∷ row (small deckE (4 ∷ 0 ∷ 16387 ∷ (nested 336 ++ (2 ∷ 0 ∷ []))) 3 0 (shows budget 3 0 2 []))
+    ∷ row (small deckE (4 ∷ 0 ∷ 16387 ∷ (nested 336 ++ (2 ∷ 0 ∷ []))) 5 0 (shows budget 3 0 2 [] 5))
     (words [] (4 ∷ 0 ∷ 2 ∷ 0 ∷ 342 ∷ 0 ∷ 16387 ∷ (nested 336 ++ (2 ∷ 0 ∷ []))))
-    ∷ row (small deckV (16386 ∷ nested 300) 9 0 (shows finished 6 0 0 (undecided ∷ []))) (words [] (8496 ∷ 0 ∷ 16386 ∷ nested 300))
-    ∷ row (small deckL (2 ∷ 32768 ∷ []) 9 6 (shows finished 3 2 0 [])) (words (3 ∷ 1 ∷ 0 ∷ 3 ∷ 1 ∷ 1 ∷ []) [])
-    ∷ row (small deckL (2 ∷ 32768 ∷ []) 9 5 (shows answers 2 1 1 [])) (words (3 ∷ 1 ∷ 0 ∷ []) (3 ∷ 1 ∷ 1 ∷ []))
-    ∷ row (small deckL (2 ∷ 32768 ∷ []) 2 3 (shows budget 2 1 1 [])) (words (3 ∷ 1 ∷ 0 ∷ []) (3 ∷ 1 ∷ 1 ∷ []))
+    ∷ row (small deckV (16386 ∷ nested 300) 11 0 (shows finished 6 0 0 (undecided ∷ []) 11)) (words [] (8496 ∷ 0 ∷ 16386 ∷ nested 300))
+    ∷ row (small deckL (2 ∷ 32768 ∷ []) 9 6 (shows finished 3 2 0 [] 5)) (words (3 ∷ 1 ∷ 0 ∷ 3 ∷ 1 ∷ 1 ∷ []) [])
+    ∷ row (small deckL (2 ∷ 32768 ∷ []) 9 5 (shows answers 2 1 1 [] 4)) (words (3 ∷ 1 ∷ 0 ∷ []) (3 ∷ 1 ∷ 1 ∷ []))
+    ∷ row (small deckL (2 ∷ 32768 ∷ []) 4 3 (shows budget 2 1 1 [] 4)) (words (3 ∷ 1 ∷ 0 ∷ []) (3 ∷ 1 ∷ 1 ∷ []))
     ∷ []
 
 pub store-runs : map found bounds ≡ map wanted bounds

@@ -224,12 +224,12 @@ module _ (terms : ℕ) where
 
   step-of : {clauses : List Clause} {room storeSize below left : ℕ} {at : Place} {l l′ : Level} → Ahead clauses room storeSize below at l left (step l′) → LevelOf l → LevelOf l′
   unfolding withAnswer withParked withPending
-  step-of (lists {l} {g = g} e a f s) h =
+  step-of (lists {l} {g = g} e c a f s) h =
       let k = subst (All Of) e (h .pending) in record { pending = k .1; parked = h .parked; answers = all-snoc Of (l .answers) g (h .answers) (k .0) }
-  step-of (parks {l = l} {g = g} {m = m} e a s) h =
+  step-of (parks {l = l} {g = g} {m = m} e c a s) h =
       let k = subst (All Of) e (h .pending) in
       record { pending = k .1; parked = all-snoc (λ m. Of (m .goal)) (l .parked) (marked m g) (h .parked) (k .0); answers = h .answers }
-  step-of {clauses} (replaces {l = l} {g = g} {gs} e (resolves {before} {after} {p} {ts} q o) s) h =
+  step-of {clauses} (replaces {l = l} {g = g} {gs} e c (resolves {before} {after} {p} {ts} q o) s) h =
       let k = subst (All Of) e (h .pending) in
       let ds = resolvents clauses g before p ts after in
       let same = all-weaken (λ d. count (d .answers) ≡ count (g .answers)) Of (λ d x. x ∙ k .0) ds (resolvents-many clauses g before p ts after) in
@@ -238,7 +238,7 @@ module _ (terms : ℕ) where
   ask-of : {clauses : List Clause} {room storeSize below left : ℕ} {at : Place} {l : Level} {q : Question} → Ahead clauses room storeSize below at l left (ask q) → LevelOf l
       → LevelOf (q .onSuccess) × LevelOf (q .onFailure) × LevelOf (q .onUnsettled)
   unfolding question withPending withParked
-  ask-of (inquires {l = l} {g = g} {gs} e a s) h =
+  ask-of (inquires {l = l} {g = g} {gs} e c a s) h =
       let k = subst (All Of) e (h .pending) in (
         record { pending = k .1; parked = h .parked; answers = h .answers },
         record { pending = (k .0, k .1); parked = h .parked; answers = h .answers },
@@ -258,14 +258,14 @@ behind-parked ms l m g (new, e) = (new ++ (marked m g ∷ []), ap (λ (xs : List
 module _ (ms : List Marked) {clauses : List Clause} {room storeSize : ℕ} where
   behind-step : {below left : ℕ} {at : Place} {l l′ : Level} → Ahead clauses room storeSize below at l left (step l′) → Behind ms l → Behind ms l′
   unfolding withAnswer withParked withPending
-  behind-step (lists e a f s) h = h
-  behind-step (parks {l = l} {g = g} {m = m} e a s) h = behind-parked ms l m g h
-  behind-step (replaces e a s) h = h
+  behind-step (lists e c a f s) h = h
+  behind-step (parks {l = l} {g = g} {m = m} e c a s) h = behind-parked ms l m g h
+  behind-step (replaces e c a s) h = h
 
   behind-ask : {below left : ℕ} {at : Place} {l : Level} {q : Question} → Ahead clauses room storeSize below at l left (ask q) → Behind ms l
       → Behind ms (q .onSuccess) × Behind ms (q .onFailure) × Behind ms (q .onUnsettled)
   unfolding question withPending withParked
-  behind-ask (inquires {l = l} {g = g} e a s) h = (h, h, behind-parked ms l undecided g h)
+  behind-ask (inquires {l = l} {g = g} e c a s) h = (h, h, behind-parked ms l undecided g h)
 
 pub parked-remain : (deck : Deck) (answerRoom storeSize : ℕ) (gs : List Goal) (ms : List Marked) (total : ℕ)
     → (new : List Marked) × (evaluate deck answerRoom storeSize gs ms total .parked ≡ ms ++ new)

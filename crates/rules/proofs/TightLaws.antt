@@ -12,7 +12,7 @@ use Rattle.rules.specs.Syntax.{Literal, pos, neg, Clause, Deck, Goal, ar
 use Rattle.rules.specs.Goals.{Mark, pending, floundered, undecided, oversized, deep, Marked, member, appearing, position, renumber, variables, queryVariables, firstGoal}
 use Rattle.rules.specs.Unification.{Substitution, apply, applys, Unification, fails, spent, solved, unify}
 use Rattle.rules.specs.Resolution.{Selection, nothing, positive, negative, ground, behind, select, clausesAbout, fresh, place, resolved, resolvent, resolvents}
-use Rattle.rules.specs.Evaluation.{Level, Place, zeroth, evaluate}
+use Rattle.rules.specs.Evaluation.{Level, Place, Account, zeroth, evaluate}
 use Rattle.rules.specs.WellFormed.{All}
 use Rattle.rules.specs.Passes.{FreshPasses}
 use Rattle.rules.specs.Loose.{positives, among, tight, tightClause, tightQuery, tightClauses}
@@ -264,7 +264,7 @@ first-tight query h x k =
 
 module _ (deck : Deck) (query : List Literal) (tight-deck : tightClauses (deck .clauses) ≡ true) (tight-query : tightQuery query ≡ true)
     (answerRoom storeSize total : ℕ) where
-  kempt-passed : (below : ℕ) (at : Place) (l : Level) (left : ℕ) → FreshPasses deck answerRoom storeSize query total below at l left → LevelHas Kempt l
+  kempt-passed : (below : ℕ) (at : Place) (l : Level) (left : Account) → FreshPasses deck answerRoom storeSize query total below at l left → LevelHas Kempt l
   unfolding tightQuery
   kempt-passed below at l left p =
       passes-keep (deck .clauses) answerRoom storeSize (λ below l. LevelHas Kempt l)
@@ -272,7 +272,7 @@ module _ (deck : Deck) (query : List Literal) (tight-deck : tightClauses (deck .
       (start-has Kempt (firstGoal query) (first-tight query (tight-says nil query .0 tight-query))) p
 
   -- A FRESH RUN NEVER PARKS WITH MARK 1, ON ANY LEVEL,
-  pub never-flounders : (below : ℕ) (at : Place) (l : Level) (left : ℕ) → FreshPasses deck answerRoom storeSize query total below at l left
+  pub never-flounders : (below : ℕ) (at : Place) (l : Level) (left : Account) → FreshPasses deck answerRoom storeSize query total below at l left
       → All Unfloundered (l .parked)
   never-flounders below at l left p = kempt-passed below at l left p .parked
 

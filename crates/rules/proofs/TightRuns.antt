@@ -10,7 +10,7 @@ use Rattle.rules.specs.Syntax.{Literal, Goal, Deck}
 use Rattle.rules.specs.Refusals.{Checked, refused, accepted}
 use Rattle.rules.specs.Decks.{openDeck, readQuery}
 use Rattle.rules.specs.Goals.{Marked, unmarked, readGoals, firstGoal}
-use Rattle.rules.specs.Evaluation.{Level, Place, zeroth, Outcome}
+use Rattle.rules.specs.Evaluation.{Level, Place, Account, zeroth, Outcome}
 use Rattle.rules.specs.Run.{Report, report, returned, Slices, Leaves, runOn, Ran}
 use Rattle.rules.specs.WellFormed.{All}
 use Rattle.rules.specs.Passes.{FreshPasses}
@@ -27,7 +27,7 @@ use Rattle.rules.proofs.TightLaws.{Unfloundered, Closed, never-flounder
 
 -- Of an accepted outcome.
 module _ {deckWords queryWords : List ℕ} {budget answerRoom storeSize : ℕ} {o : Outcome} (a : Accepted deckWords queryWords budget answerRoom storeSize o) where
-  pub accepted-never-flounders : (below : ℕ) (at : Place) (l : Level) (left : ℕ)
+  pub accepted-never-flounders : (below : ℕ) (at : Place) (l : Level) (left : Account)
       → FreshPasses (a .deck) answerRoom storeSize (a .query) budget below at l left → All Unfloundered (l .parked)
   accepted-never-flounders = never-flounders (a .deck) (a .query) (a .tightDeck) (a .tightAsked) answerRoom storeSize budget
 
@@ -41,7 +41,7 @@ module _ {deckWords queryWords : List ℕ} {budget answerRoom storeSize : ℕ} {
 
   -- Whatever deck was opened and query was read, they are those of the outcome.
   pub passed-unfloundered : (deck : Deck) → openDeck deckWords ≡ accepted deck → (query : List Literal) → readQuery deck queryWords ≡ accepted query
-      → (below : ℕ) (at : Place) (l : Level) (left : ℕ) → FreshPasses deck answerRoom storeSize query budget below at l left → All Unfloundered (l .parked)
+      → (below : ℕ) (at : Place) (l : Level) (left : Account) → FreshPasses deck answerRoom storeSize query budget below at l left → All Unfloundered (l .parked)
   passed-unfloundered deck opens query asks below at l left p =
       let d : deck ≡ a .deck = let x = a .opens in cc in
       let r : readQuery (a .deck) queryWords ≡ accepted query = subst (λ (x : Deck). readQuery x queryWords ≡ accepted query) d asks in
@@ -79,7 +79,7 @@ module _ (deckWords queryWords : List ℕ) (budget : ℕ) (entry exit : Slices) 
 
   -- No level that it passes parks with mark 1;
   pub ran-never-flounders : (deck : Deck) → openDeck deckWords ≡ accepted deck → (query : List Literal) → readQuery deck queryWords ≡ accepted query
-      → (below : ℕ) (at : Place) (l : Level) (left : ℕ) → FreshPasses deck (length (entry .answers)) (length (entry .store)) query budget below at l left
+      → (below : ℕ) (at : Place) (l : Level) (left : Account) → FreshPasses deck (length (entry .answers)) (length (entry .store)) query budget below at l left
       → All Unfloundered (l .parked)
   ran-never-flounders deck opens query asks below at l left p = passed-unfloundered (ran-left .is) deck opens query asks below at l left p
 

@@ -40,13 +40,15 @@ found r = showsAndLeaves (outcomeOf (r .run))
 abbrev pub wanted : Row → Shown
 wanted r = both (r .run .expected) (r .left)
 
--- Budget 8: the answer b. Budget 7: b, not yet listed. Budget 4: both goals, each with its "not". Budget 0: the first goal.
+-- Budget 13: the answer b. Budget 12: b, not yet listed. Budgets 8 and 7: both goals, each with its "not". Budget 4: the body. Budget 0: the first goal.
 -- Then nothing, the empty query's answer, nothing, the answer of a query without variables, nothing.
 pub starred-words :
     map leaves starred
     ≡ words (3 ∷ 1 ∷ 1 ∷ []) []
     ∷ words [] (3 ∷ 1 ∷ 1 ∷ [])
     ∷ words [] (5 ∷ 1 ∷ 0 ∷ 16387 ∷ 0 ∷ 5 ∷ 1 ∷ 1 ∷ 16387 ∷ 1 ∷ [])
+    ∷ words [] (5 ∷ 1 ∷ 0 ∷ 16387 ∷ 0 ∷ 5 ∷ 1 ∷ 1 ∷ 16387 ∷ 1 ∷ [])
+    ∷ words [] (7 ∷ 1 ∷ 32768 ∷ 2 ∷ 32768 ∷ 16387 ∷ 32768 ∷ [])
     ∷ words [] (5 ∷ 1 ∷ 32768 ∷ 4 ∷ 32768 ∷ [])
     ∷ words [] []
     ∷ words (2 ∷ 0 ∷ []) []
@@ -57,7 +59,7 @@ pub starred-words :
 unfolding rules
 starred-words = refl
 
--- In the order of `more`: the undecided goal, with mark 2; f(a); nothing; the goal itself with mark 3; the answer that fitted and the goal that did not;
+-- In the order of `more`: the undecided goal, with mark 2; f(a); nothing; the goal itself with mark 3, or as it was; the answer that fitted and the goal that did not;
 -- the goals as they were before the step that did not fit, and the oversized one after the pending one; the goals as they were before their "not".
 pub more-words :
     map leaves more
@@ -65,6 +67,7 @@ pub more-words :
     ∷ words (4 ∷ 2 ∷ 0 ∷ 3 ∷ []) []
     ∷ words [] []
     ∷ words [] (12392 ∷ 0 ∷ 2 ∷ nested 100)
+    ∷ words [] (104 ∷ 0 ∷ 2 ∷ nested 100)
     ∷ words (3 ∷ 1 ∷ 0 ∷ []) (3 ∷ 1 ∷ 1 ∷ [])
     ∷ words [] (407 ∷ 1 ∷ 32768 ∷ 2 ∷ 32768 ∷ 3 ∷ nested 400)
     ∷ words [] ((344 ∷ 0 ∷ 4 ∷ nested 340) ++ (12632 ∷ 0 ∷ 3 ∷ nested 340))

@@ -6,7 +6,7 @@ use lib.Dec.{leb}
 use Rattle.rules.specs.Terms.{Terms, nil}
 use Rattle.rules.specs.Syntax.{Literal, pos, Clause, Deck, Goal}
 use Rattle.rules.specs.Goals.{Mark, floundered, undecided, oversized, deep, Marked, marked, goalWords, wordsOf, markedWords}
-use Rattle.rules.specs.Resolution.{Selection, nothing, positive, negative, select, resolvents, anyOversized}
+use Rattle.rules.specs.Resolution.{Selection, nothing, positive, negative, select, resolvents, anyOversized, costOf}
 
 -- Why an accepted run stops. Document 01 has words for the stops; the numbers are for calls that return numbers.
 pub data Stop : Type 0 where
@@ -128,22 +128,38 @@ checkStore storeSize at (step l) = unlessOver storeSize (held at l) (step l)
 checkStore storeSize at success = success
 checkStore storeSize at (ask q) = unlessOver storeSize (q .heldOutside + goalWords (q .goal)) (ask q)
 
--- How a level ends: a deeper one has succeeded, or one of the four stops; with the level as it is then, and the steps left.
+-- What is left of the budget, and the steps taken so far, over all levels.
+pub record Account : Type 0 where
+  pub left : ℕ
+  pub steps : ℕ
+
+abbrev pub opening : ℕ → Account
+opening total = record { left = total; steps = 0 }
+
+-- What a step costs that acts on the first of the pending goals. A step that is taken is paid and counted.
+unfoldable pub firstCost : List Clause → List Goal → ℕ
+firstCost clauses [] = 1
+firstCost clauses (g ∷ gs) = costOf clauses g
+
+abbrev pub pay : List Clause → Level → Account → Account
+pay clauses l a = record { left = a .left - firstCost clauses (l .pending); steps = suc (a .steps) }
+
+-- How a level ends: a deeper one has succeeded, or one of the four stops; with the level and the account as they are then.
 pub data Ending : Type 0 where
   succeeded : Ending
   stopped : Stop → Ending
 
 pub data Ended : Type 0 where
-  ended : Ending → Level → ℕ → Ended
+  ended : Ending → Level → Account → Ended
 
 -- What a new level tells the outer one of its atom: it succeeds; it fails, finished with nothing parked; it is unsettled, finished with
--- something parked; or a stop has interrupted it. And the steps left.
+-- something parked; or a stop has interrupted it. And the account.
 pub data Verdict : Type 0 where
   succeeds fails unsettled : Verdict
   interrupted : Stop → Verdict
 
 pub data Reply : Type 0 where
-  reply : Verdict → ℕ → Reply
+  reply : Verdict → Account → Reply
 
 unfoldable pub verdictOf : Ending → List Marked → Verdict
 verdictOf succeeded parked = succeeds
@@ -154,56 +170,58 @@ verdictOf (stopped answers) parked = interrupted answers
 verdictOf (stopped store) parked = interrupted store
 
 unfoldable pub replyOf : Ended → Reply
-replyOf (ended e l left) = reply (verdictOf e (l .parked)) left
+replyOf (ended e l a) = reply (verdictOf e (l .parked)) a
 
 -- The closings cost nothing. A stop at any level stops the run, and the outer level is as it was before the step.
-unfoldable pub close : (Level → ℕ → Ended) → Level → Question → Reply → Ended
-close again l q (reply succeeds left) = again (q .onSuccess) left
-close again l q (reply fails left) = again (q .onFailure) left
-close again l q (reply unsettled left) = again (q .onUnsettled) left
-close again l q (reply (interrupted s) left) = ended (stopped s) l left
+unfoldable pub close : (Level → Account → Ended) → Level → Question → Reply → Ended
+close again l q (reply succeeds a) = again (q .onSuccess) a
+close again l q (reply fails a) = again (q .onFailure) a
+close again l q (reply unsettled a) = again (q .onUnsettled) a
+close again l q (reply (interrupted s) a) = ended (stopped s) l a
 
--- A step costs 1. `again` goes on at this level, `decides` runs a new one.
-unfoldable pub proceed : (Level → ℕ → Ended) → (Question → ℕ → Reply) → Level → ℕ → Next → Ended
-proceed again decides l left (halt s) = ended (stopped s) l left
-proceed again decides l left (step l′) = again l′ (left - 1)
-proceed again decides l left success = ended succeeded l (left - 1)
-proceed again decides l left (ask q) = close again l q (decides q (left - 1))
+-- A step not taken is neither paid nor counted; `paid` is the account after a step. `again` goes on at this level, `decides` runs a new one.
+unfoldable pub proceed : (Level → Account → Ended) → (Question → Account → Reply) → Level → Account → Account → Next → Ended
+proceed again decides l a paid (halt s) = ended (stopped s) l a
+proceed again decides l a paid (step l′) = again l′ paid
+proceed again decides l a paid success = ended succeeded l paid
+proceed again decides l a paid (ask q) = close again l q (decides q paid)
 
 -- A new level starts on its goal, in the part of the store past the words held. On level 32 nothing is asked,
 -- and what `unasked` says does not matter.
-unfoldable pub decideBy : (Place → Level → ℕ → Ended) → Question → ℕ → Reply
-decideBy evaluates q left = replyOf (evaluates (deeper (q .heldOutside)) (startLevel (q .goal)) left)
+unfoldable pub decideBy : (Place → Level → Account → Ended) → Question → Account → Reply
+decideBy evaluates q a = replyOf (evaluates (deeper (q .heldOutside)) (startLevel (q .goal)) a)
 
-unfoldable pub unasked : Question → ℕ → Reply
-unasked q left = reply unsettled left
+unfoldable pub unasked : Question → Account → Reply
+unasked q a = reply unsettled a
 
 -- Over a deck's clauses, the length of the answer list and the length of the store. `below` is the number of levels below this one,
--- 32 at level 0; `left` is what is left of the budget.
+-- 32 at level 0.
 module _ (clauses : List Clause) (answerRoom storeSize : ℕ) where
-  -- Before each step, in this order: pending empty, the level is finished; budget spent, stop "budget"; the two other stops.
+  -- Before each step, in this order: pending empty, the level is finished; the step's whole cost is not left, stop "budget"; the two other
+  -- stops. `left` is what is left of the budget.
   unfoldable pub nextFrom : ℕ → Place → Level → List Goal → ℕ → Next
   nextFrom below at l [] left = halt finished
-  nextFrom below at l (g ∷ gs) zero = halt budget
-  nextFrom below at l (g ∷ gs) (suc left) = checkStore storeSize at (actStep answerRoom at l g gs (actOf clauses below g))
+  nextFrom below at l (g ∷ gs) left =
+      elim (leb (costOf clauses g) left) [ true ↦ checkStore storeSize at (actStep answerRoom at l g gs (actOf clauses below g)) | false ↦ halt budget ]
 
   unfoldable pub nextOf : ℕ → Place → Level → ℕ → Next
   nextOf below at l left = nextFrom below at l (l .pending) left
 
-  -- A level's steps. `fuel` only bounds the recursion: it is above `left`, and each turn costs a step (`level-unfolds`).
-  unfoldable pub turn : (Question → ℕ → Reply) → ℕ → Place → ℕ → Level → ℕ → Ended
-  turn decides below at zero l left = ended (stopped budget) l left
-  turn decides below at (suc fuel) l left = proceed (turn decides below at fuel) decides l left (nextOf below at l left)
+  -- A level's steps. `fuel` only bounds the recursion: it is above what is left, and each turn costs at least 1 (`level-unfolds`).
+  unfoldable pub turn : (Question → Account → Reply) → ℕ → Place → ℕ → Level → Account → Ended
+  turn decides below at zero l a = ended (stopped budget) l a
+  turn decides below at (suc fuel) l a = proceed (turn decides below at fuel) decides l a (pay clauses l a) (nextOf below at l (a .left))
 
   -- The evaluation of a level. It calls the same evaluation, one level deeper, for its own "nots"; level 32 asks nothing.
-  unfoldable pub evaluateLevel : ℕ → Place → Level → ℕ → Ended
-  evaluateLevel zero at l left = turn unasked zero at (suc left) l left
-  evaluateLevel (suc below) at l left = turn (decideBy (evaluateLevel below)) (suc below) at (suc left) l left
+  unfoldable pub evaluateLevel : ℕ → Place → Level → Account → Ended
+  evaluateLevel zero at l a = turn unasked zero at (suc (a .left)) l a
+  evaluateLevel (suc below) at l a = turn (decideBy (evaluateLevel below)) (suc below) at (suc (a .left)) l a
 
--- What an accepted run comes to: the stop, the steps used over all levels, the answers, and the pending and parked goals.
+-- What an accepted run comes to: the stop, the steps used over all levels and their cost, the answers, and the pending and parked goals.
 pub record Outcome : Type 0 where
   pub stop : Stop
   pub steps : ℕ
+  pub cost : ℕ
   pub answers : List Goal
   pub pending : List Goal
   pub parked : List Marked
@@ -214,10 +232,10 @@ stopOf succeeded = finished
 stopOf (stopped s) = s
 
 unfoldable pub outcome : ℕ → Ended → Outcome
-outcome total (ended e l left) =
-    record { stop = stopOf e; steps = total - left; answers = l .answers; pending = l .pending; parked = l .parked }
+outcome total (ended e l a) =
+    record { stop = stopOf e; steps = a .steps; cost = total - a .left; answers = l .answers; pending = l .pending; parked = l .parked }
 
 -- From any pending and parked goals, with no answers yet. The levels are 0 to 32.
 unfoldable pub evaluate : Deck → ℕ → ℕ → List Goal → List Marked → ℕ → Outcome
 evaluate deck answerRoom storeSize pending parked total =
-    outcome total (evaluateLevel (deck .clauses) answerRoom storeSize 32 zeroth (record { pending = pending; parked = parked; answers = [] }) total)
+    outcome total (evaluateLevel (deck .clauses) answerRoom storeSize 32 zeroth (record { pending = pending; parked = parked; answers = [] }) (opening total))

@@ -78,7 +78,7 @@ verdictText budget ms gs = openText
 verdictText answers ms gs = openText
 verdictText store ms gs = openText
 
--- The second line is stop, steps, answers, pending, parked, with a space between. Each line ends in byte 10.
+-- The second line is stop, steps, answers, pending, parked, cost, with a space between. Each line ends in byte 10.
 unfoldable pub listing : Checked Outcome → List ℕ
 listing (refused n) = refusedText ++ decimal (refusalNumber n) (10 ∷ [])
 listing (accepted o) =
@@ -88,4 +88,5 @@ listing (accepted o) =
     (32 ∷ decimal (length (o .answers))
     (32 ∷ decimal (length (o .pending))
     (32 ∷ decimal (length (o .parked))
-    (10 ∷ printAnswers (o .answers))))))))
+    (32 ∷ decimal (o .cost)
+    (10 ∷ printAnswers (o .answers)))))))))

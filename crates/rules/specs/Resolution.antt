@@ -1,5 +1,5 @@
 -- The selected literal and the resolvents, which document 01 calls derived goals ("The evaluation").
-use Prim.Native.Nat.{ℕ, _+_}
+use Prim.Native.Nat.{ℕ, suc, _+_}
 use mathlib.Core.Bool.{Bool, true, false, _||_}
 use mathlib.Core.Option.{Option, none, some}
 use mathlib.Core.List.{List, [], _∷_, _++_}
@@ -7,7 +7,7 @@ use lib.Dec.{ltb, eqb}
 use Rattle.rules.specs.Terms.{Terms, varsTerms, renames}
 use Rattle.rules.specs.Syntax.{Literal, pos, neg, Clause, Goal, mapLiterals, mapGoal, topGoal}
 use Rattle.rules.specs.Goals.{goalWords, renumber}
-use Rattle.rules.specs.Unification.{Unification, fails, spent, solved, applys, unify}
+use Rattle.rules.specs.Unification.{Unification, fails, spent, solved, equations, applys, unify}
 
 -- Select the leftmost literal that is positive, or negative without variables. It comes with the literals before and after it.
 -- Where there is none, the goal has floundered.
@@ -68,3 +68,18 @@ resolvents clauses g before p ts after = collect (resolvent (topGoal g) (g .answ
 unfoldable pub anyOversized : List Goal → Bool
 anyOversized [] = false
 anyOversized (g ∷ gs) = ltb 1024 (goalWords g) || anyOversized gs
+
+-- COST (document 02, U6). Matching reports how many equations it took from its list, the failing one included; here summed over clauses.
+unfoldable pub matchings : ℕ → Terms → List Clause → ℕ
+matchings N ts [] = 0
+matchings N ts (c ∷ cs) = equations (unify ts (fresh N (c .arguments))) + matchings N ts cs
+
+-- A positive step costs 1 plus that number, summed over every clause about the predicate. Other steps cost 1.
+unfoldable pub selectedCost : List Clause → Goal → Selection → ℕ
+selectedCost clauses g nothing = 1
+selectedCost clauses g (positive before p ts after) = suc (matchings (topGoal g) ts (clausesAbout p clauses))
+selectedCost clauses g (negative before p ts after) = 1
+
+-- What a step on the goal costs.
+unfoldable pub costOf : List Clause → Goal → ℕ
+costOf clauses g = selectedCost clauses g (select (g .literals))

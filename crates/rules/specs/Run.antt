@@ -47,17 +47,18 @@ carryOn carried budget answerRoom storeSize = do
   c ← carried
   accepted (evaluate (c .deck) answerRoom storeSize (c .goals .pending) (c .goals .parked) budget)
 
--- An accepted run returns the stop, steps used over all levels, and the numbers of answers, pending and parked goals.
+-- An accepted run returns the stop, steps used over all levels and their cost, and the numbers of answers, pending and parked goals.
 pub record Report : Type 0 where
   pub stop : Stop
   pub steps : ℕ
+  pub cost : ℕ
   pub answers : ℕ
   pub pending : ℕ
   pub parked : ℕ
 
 unfoldable pub report : Outcome → Report
 report o =
-    record { stop = o .stop; steps = o .steps; answers = length (o .answers); pending = length (o .pending); parked = length (o .parked) }
+    record { stop = o .stop; steps = o .steps; cost = o .cost; answers = length (o .answers); pending = length (o .pending); parked = length (o .parked) }
 
 unfoldable pub returned : Checked Outcome → Checked Report
 returned (refused n) = refused n

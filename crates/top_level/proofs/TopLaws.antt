@@ -17,7 +17,7 @@ use Rattle.rules.proofs.GoalLaws.{goals-length, goals-append, unmarked-append, 
 use Rattle.rules.proofs.LevelLaws.{level-empty, level-spent, level-halts, level-steps}
 use Rattle.report.specs.declared.Stop.the-variants.{Finished, Budget, Answers}
 use Rattle.goals.specs.Store.{Holding, SomeFirst, markOf}
-use Rattle.levels.specs.Levels.{Stands, Turned}
+use Rattle.levels.specs.Levels.{accountOf, paidOne, Stands, Turned}
 use Rattle.top_level.specs.Top.{Stored, Ordered, Topped, Started, started, opening, begun, evaluates, Lists, Goes, Stops, Bare, Waits, moved, Stepped, Due}
 use Rattle.goals.specs.declared.Mark as declared
 use Rattle.top_level.specs.declared.Counts.{Counts}
@@ -25,43 +25,47 @@ use Rattle.top_level.specs.declared.Progress.{Progress}
 use Rattle.top_level.specs.declared.End.{End}
 use Rattle.top_level.specs.declared.Next.{Next}
 use Rattle.top_level.specs.declared.Next.the-variants.{On, Ends}
+use Rattle.levels.specs.declared.Account.{Account}
 use Rattle.levels.specs.declared.Turn.{Turn}
 use Rattle.levels.specs.declared.Turn.the-variants.{Empty, Park, More, Stopped}
 use Rattle.goals.proofs.HeldLaws.{pendingWords, goals-first, cells-length, FirstOf, first-of, none-held}
-use Rattle.levels.proofs.StepLaws.{bare, within, next-is, one-less}
+use Rattle.levels.proofs.StepLaws.{bare, within, Pays, next-is, paid}
+use Rattle.levels.proofs.TurnLaws.{bare-paid}
 use Rattle.top_level.proofs.StoredLaws.{part-all, put-all, parked-words, stored-inside, stored-stands, put-back, kept-back, first-fits, first-word, first-copied, rest-stored}
 
 -- A GOAL WITHOUT LITERALS at level 0: it is listed, or there is no room for its words.
-module _ (clauses : List Clause) (answerRoom storeSize below : ℕ) (g : Goal) (gs : List Goal) (total used : ℕ) (pays : used < total) (l : Level)
+module _ (clauses : List Clause) (answerRoom storeSize below : ℕ) (g : Goal) (gs : List Goal) (a : Account) (some : 0 < a .left) (l : Level)
     (p : l .pending ≡ g ∷ gs) (e : g .literals ≡ []) where
-  next : nextOf clauses answerRoom storeSize below zeroth l (total - used) ≡ checkStore storeSize zeroth (answerStep answerRoom zeroth l g gs)
+  pays : Pays clauses g (accountOf a) (accountOf (paidOne a))
+  pays = bare-paid clauses g a some e
+
+  next : nextOf clauses answerRoom storeSize below zeroth l (a .left) ≡ checkStore storeSize zeroth (answerStep answerRoom zeroth l g gs)
   unfolding actStep
-  next = next-is clauses below 0 g gs total used pays answerRoom storeSize zeroth l p noLiterals (bare clauses below g e)
+  next = next-is clauses below 0 g gs (accountOf a) (accountOf (paidOne a)) pays answerRoom storeSize zeroth l p noLiterals (bare clauses below g e)
 
   pub lists : wordsOf (l .answers) + goalWords g ≤ answerRoom → wordsOf gs + markedWords (l .parked) ≤ storeSize
-      → evaluateLevel clauses answerRoom storeSize below zeroth l (total - used) ≡ evaluateLevel clauses answerRoom storeSize below zeroth (withAnswer g gs l) (total - (used + 1))
+      → evaluateLevel clauses answerRoom storeSize below zeroth l (accountOf a) ≡ evaluateLevel clauses answerRoom storeSize below zeroth (withAnswer g gs l) (accountOf (paidOne a))
   unfolding answerStep checkStore held withAnswer
   lists f h =
-      level-steps clauses answerRoom storeSize below zeroth l (total - used) (withAnswer g gs l)
+      level-steps clauses answerRoom storeSize below zeroth l (accountOf a) (withAnswer g gs l)
       (next ∙ rw (le-leb (wordsOf (l .answers) + goalWords g) answerRoom f, answerStep) (within storeSize (wordsOf gs + markedWords (l .parked)) (step (withAnswer g gs l)) h))
-      ∙ ap (λ (n : ℕ). evaluateLevel clauses answerRoom storeSize below zeroth (withAnswer g gs l) n) (one-less clauses below 0 g gs total used pays)
+      ∙ ap (evaluateLevel clauses answerRoom storeSize below zeroth (withAnswer g gs l)) (paid clauses below 0 g gs (accountOf a) (accountOf (paidOne a)) pays l p)
 
   pub unlisted : answerRoom < wordsOf (l .answers) + goalWords g
-      → evaluateLevel clauses answerRoom storeSize below zeroth l (total - used) ≡ ended (stopped rules.answers) l (total - used)
+      → evaluateLevel clauses answerRoom storeSize below zeroth l (accountOf a) ≡ ended (stopped rules.answers) l (accountOf a)
   unfolding answerStep checkStore
   unlisted f =
-      level-halts clauses answerRoom storeSize below zeroth l (total - used) rules.answers
+      level-halts clauses answerRoom storeSize below zeroth l (accountOf a) rules.answers
       (next ∙ rw (lt-leb (wordsOf (l .answers) + goalWords g) answerRoom f, answerStep))
 
 pub goes-first : {d : Deck} {answers store : List ℕ} {gs : List Goal} {ms : List Marked} {budget parked held : ℕ} → Stored (d .symbols) store parked held (opening gs ms)
-    → Goes (started d answers store gs ms budget) answers store (record { parked = parked; held = held; used = 0; filled = 0; listed = 0 })
+    → Goes (started d answers store gs ms budget) answers store (record { parked = parked; held = held; account = record { left = budget; steps = 0 }; filled = 0; listed = 0 })
 unfolding writeGoals
 goes-first {d} {answers} {store} {gs} {ms} {budget} h =
     let s = started d answers store gs ms budget in
-    let n : budget ≡ budget - 0 = omega arith in
     record {
       level = begun s;
-      same = ap (evaluates s (begun s)) n;
+      same = refl;
       stored = h;
       lists = record { listed = refl; words = refl; counted = refl };
       size = refl;
@@ -101,12 +105,12 @@ module _ {s : Started} {answers store : List ℕ} {p : Progress} (r : Goes s ans
     level = r .level;
     same =
         r .same
-        ∙ level-empty (s .deck .clauses) (length (s .answers)) (length (s .store)) 32 zeroth (r .level) (s .budget - p .used) (none-held (r .level .pending) (r .stored .pending) z);
+        ∙ level-empty (s .deck .clauses) (length (s .answers)) (length (s .store)) 32 zeroth (r .level) (accountOf (p .account)) (none-held (r .level .pending) (r .stored .pending) z);
     stored = r .stored;
     lists = r .lists;
     size = r .size;
     room = r .room;
-    paid = r .paid;
+    paid = omega (arith, r .paid);
   }
 
   -- SOMETHING IS HELD
@@ -120,23 +124,22 @@ module _ {s : Started} {answers store : List ℕ} {p : Progress} (r : Goes s ans
     pub some-first : (deckWords : List ℕ) → openDeck deckWords ≡ accepted (s .deck) → SomeFirst deckWords (midOf (p .parked) (length store - p .parked) store) (p .held)
     some-first deckWords o = rw (part-all store (p .parked) (r .stored .inside)) (record { deck = s .deck; first = first .first; goals = first .rest; opens = o; holding = first-held })
 
-    pub stops-spent : p .used ≡ s .budget → Stops s answers store (record { stop = Budget; at = p })
-    stops-spent e =
-        let z : s .budget - p .used ≡ 0 = omega arith in
+    pub stops-spent : p .account .left ≡ 0 → Stops s answers store (record { stop = Budget; at = p })
+    stops-spent z =
         record {
           level = r .level;
           same =
               r .same
-              ∙ rw (z, level-spent (s .deck .clauses) (length (s .answers)) (length (s .store)) 32 zeroth (r .level) (first .first) (first .rest) (first .same));
+              ∙ level-spent (s .deck .clauses) (length (s .answers)) (length (s .store)) 32 zeroth (r .level) (accountOf (p .account)) (first .first) (first .rest) (first .same) z;
           stored = r .stored;
           lists = r .lists;
           size = r .size;
           room = r .room;
-          paid = r .paid;
+          paid = omega (arith, r .paid);
         }
 
     -- A STEP, which leaves `part` past the parked goals.
-    module _ (pays : p .used < s .budget) (deckWords : List ℕ) (opens : openDeck deckWords ≡ accepted (s .deck)) (part : List ℕ)
+    module _ (pays : 0 < p .account .left) (deckWords : List ℕ) (opens : openDeck deckWords ≡ accepted (s .deck)) (part : List ℕ)
         (long : length part ≡ length (midOf (p .parked) (length store - p .parked) store)) where
       -- The store with the part in its place.
       abbrev stepped-store : List ℕ
@@ -170,7 +173,7 @@ module _ {s : Started} {answers store : List ℕ} {p : Progress} (r : Goes s ans
         few = r .few;
       }
 
-      by-turn : (t : Turn) → Turned (s .deck) 32 (drop (p .parked) store) (p .held) (s .budget) (p .used) (first .first) (first .rest) part t
+      by-turn : (t : Turn) → Turned (s .deck) 32 (drop (p .parked) store) (p .held) (p .account) (first .first) (first .rest) part t
           → Stepped s answers stepped-store p t
       unfolding withPending unchanged
       by-turn Empty u = record { goes = unchanged (u .1); goal = first .first; others = first .rest; first = first .same; empty = u .0; pays = pays }
@@ -179,8 +182,8 @@ module _ {s : Started} {answers store : List ℕ} {p : Progress} (r : Goes s ans
         goal = first .first;
         others = first .rest;
         first = first .same;
-        later = u .0;
-        pays = u .1;
+        less = u .0;
+        later = u .1;
         same = u .3 (length (s .answers)) (length (s .store)) zeroth (r .level) stands;
       }
       by-turn (More h k) u = (
@@ -193,25 +196,25 @@ module _ {s : Started} {answers store : List ℕ} {p : Progress} (r : Goes s ans
           size = all-long;
           room = r .room;
           inside = r .inside;
-          paid = u .1;
-          few = omega (arith, r .few, u .0);
+          paid = omega (arith, r .paid, u .1 .1);
+          few = r .few;
         },
       )
       by-turn (Stopped why k) u = record {
         level = r .level;
-        same = r .same ∙ u .3 (length (s .answers)) (length (s .store)) zeroth (r .level) stands;
-        stored = kept-back (r .stored) part back part-long (u .2);
+        same = r .same ∙ u .2 (length (s .answers)) (length (s .store)) zeroth (r .level) stands;
+        stored = kept-back (r .stored) part back part-long (u .1);
         lists = r .lists;
         size = all-long;
         room = r .room;
-        paid = u .1;
+        paid = omega (arith, r .paid, u .0 .0);
       }
 
       -- What a step came to, whatever the deck and the first goal.
       pub stepped : (t : Turn)
           → ((d : Deck) (g : Goal) (gs : List Goal) → openDeck deckWords ≡ accepted d
           → Holding (d .symbols) (midOf (p .parked) (length store - p .parked) store) (p .held) (g ∷ gs)
-          → Turned d 32 (midOf (p .parked) (length store - p .parked) store) (p .held) (s .budget) (p .used) g gs part t)
+          → Turned d 32 (midOf (p .parked) (length store - p .parked) store) (p .held) (p .account) g gs part t)
           → Stepped s answers stepped-store p t
       stepped t took =
           let e = part-all store (p .parked) (r .stored .inside) in
@@ -236,27 +239,27 @@ module _ {s : Started} {answers store : List ℕ} {p : Progress} (b : Bare s ans
         level = r .level;
         same =
             r .same
-            ∙ unlisted (s .deck .clauses) (length (s .answers)) (length (s .store)) 32 (b .goal) (b .others) (s .budget) (p .used) (b .pays) (r .level) (b .first)
+            ∙ unlisted (s .deck .clauses) (length (s .answers)) (length (s .store)) 32 (b .goal) (b .others) (p .account) (b .pays) (r .level) (b .first)
             (b .empty) (omega (arith, bare-size, r .lists .words, r .room, r .inside));
         stored = r .stored;
         lists = r .lists;
         size = r .size;
         room = r .room;
-        paid = r .paid;
+        paid = omega (arith, r .paid);
       }
 
   pub goes-listed : (answers′ : List ℕ) → p .filled + getD store (p .parked + p .held - 1) 0 ≤ length answers
       → answers′ ≡ sets answers (p .filled) (take (getD store (p .parked + p .held - 1) 0) (reverse (take (p .parked + p .held) store)))
       → length answers′ ≡ length answers
       → let n = getD store (p .parked + p .held - 1) 0 in
-      Goes s answers′ store (record { parked = p .parked; held = p .held - n; used = p .used + 1; filled = p .filled + n; listed = p .listed + 1 })
+      Goes s answers′ store (record { parked = p .parked; held = p .held - n; account = paidOne (p .account); filled = p .filled + n; listed = p .listed + 1 })
   goes-listed answers′ f q same-room =
       let r = b .goes in
       record {
         level = withAnswer (b .goal) (b .others) (r .level);
         same =
             r .same
-            ∙ lists (s .deck .clauses) (length (s .answers)) (length (s .store)) 32 (b .goal) (b .others) (s .budget) (p .used) (b .pays) (r .level) (b .first) (b .empty)
+            ∙ lists (s .deck .clauses) (length (s .answers)) (length (s .store)) 32 (b .goal) (b .others) (p .account) (b .pays) (r .level) (b .first) (b .empty)
             (omega (arith, bare-size, r .lists .words, r .room)) (omega (arith, stored-inside (r .stored), parked-words (r .stored), first-fits (r .stored) (b .goal) (b .others) (b .first), r .size));
         stored = rw bare-size (rest-stored (r .stored) (b .goal) (b .others) (b .first));
         lists = rw bare-size (answer-listed (b .goal) (b .others) answers′ (r .lists) (omega (arith, bare-size, r .room))
@@ -264,12 +267,12 @@ module _ {s : Started} {answers store : List ℕ} {p : Progress} (b : Bare s ans
         size = r .size;
         room = same-room ∙ r .room;
         inside = omega arith;
-        paid = omega (arith, b .pays);
-        few = omega (arith, r .few);
+        paid = omega (arith, r .paid, b .pays);
+        few = omega (arith, r .few, bare-size, cells-length (b .goal));
       }
 
 -- The first pending goal is parked.
-module _ {s : Started} {answers store : List ℕ} {p : Progress} {m : declared.Mark} {k : ℕ} (w : Waits s answers store p m k) where
+module _ {s : Started} {answers store : List ℕ} {p : Progress} {m : declared.Mark} {k : Account} (w : Waits s answers store p m k) where
   pub waits-held : 0 < p .held
   waits-held = some-held (w .goes .stored) (w .first)
 
@@ -282,7 +285,7 @@ module _ {s : Started} {answers store : List ℕ} {p : Progress} {m : declared.M
   parks-within n store′ z = z (s .deck .symbols) (w .goes .level) (w .goal) (w .others) (w .first) (w .goes .stored) .1
 
   pub goes-parked : (n : ℕ) (store′ : List ℕ) → Parks n store′ → length store′ ≡ length store
-      → Goes s answers store′ (record { parked = p .parked + n; held = p .held - n; used = k; filled = p .filled; listed = p .listed })
+      → Goes s answers store′ (record { parked = p .parked + n; held = p .held - n; account = k; filled = p .filled; listed = p .listed })
   unfolding withParked
   goes-parked n store′ z e =
       let r = w .goes in
@@ -294,33 +297,35 @@ module _ {s : Started} {answers store : List ℕ} {p : Progress} {m : declared.M
         size = e ∙ r .size;
         room = r .room;
         inside = r .inside;
-        paid = w .pays;
-        few = omega (arith, r .few, w .later);
+        paid = omega (arith, r .paid, w .later .1);
+        few = r .few;
       }
 
 -- How many turns are left at most.
-abbrev pub left : ℕ → Next → ℕ
-left budget (On p) = suc (budget - p .used)
-left budget (Ends e) = 0
+abbrev pub left : Next → ℕ
+left (On p) = suc (p .account .left)
+left (Ends e) = 0
 
 module _ (s : Started) (k : ℕ) (answers store : List ℕ) where
-  pub due-less : (r : Next) → Due s (k + 1) answers store r → left (s .budget) r < suc (s .budget - k)
-  due-less (On p) u = omega (arith, u .0, u .2)
+  pub due-less : (r : Next) → Due s k answers store r → left r < suc k
+  due-less (On p) u = omega (arith, u .0)
   due-less (Ends e) u = omega arith
 
-  pub due-any : (r : Next) → Due s k answers store r → Due s 0 answers store r
-  due-any (On p) u = (omega arith, u .1, u .2, u .3)
+  pub due-any : (r : Next) → Due s k answers store r → Due s (s .budget + 1) answers store r
+  due-any (On p) u = (omega (arith, u .3 .paid), u .1, u .2, u .3)
   due-any (Ends e) u = u
 
 -- The end, with the goals put in order.
-pub topped : {s : Started} {answers store : List ℕ} (e : End) (store′ : List ℕ) (c : Counts) → Stops s answers store e
+pub topped : (s : Started) {answers store : List ℕ} (e : End) (store′ : List ℕ) (c : Counts) (budget : ℕ) → s .budget ≡ budget → Stops s answers store e
     → ((l : Level) → Stored (s .deck .symbols) store (e .at .parked) (e .at .held) l → Ordered l store′ c)
     → Topped (s .deck) (s .answers) (s .store) (s .goals) (s .parked) (s .budget) answers store′
-    (record { stop = e .stop; steps = e .at .used; answers = e .at .listed; pending = c .pending; parked = c .parked })
-topped {s} e store′ c h o = record {
+    (record { stop = e .stop; steps = e .at .account .steps; cost = budget - e .at .account .left; answers = e .at .listed; pending = c .pending; parked = c .parked })
+topped s e store′ c budget b h o = record {
   level = h .level;
+  account = accountOf (e .at .account);
   ends = h .same;
-  within = h .paid;
+  steps = refl;
+  cost = omega (arith, b);
   listed = h .lists .listed ∙ ap (λ (n : ℕ). writeGoals (unmarked (h .level .answers)) ++ drop n (s .answers)) (h .lists .words);
   answered = h .lists .counted;
   ordered = o (h .level) (h .stored);

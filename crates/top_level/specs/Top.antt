@@ -10,11 +10,14 @@ use Rattle.rules.specs.Refusals.{accepted}
 use Rattle.rules.specs.Decks.{openDeck, readAll, readSymbol}
 use Rattle.rules.specs.Goals.{Marked, unmarked, wordsOf, markedWords, writeGoals}
 use Rattle.rules.specs.WellFormed.{All, WfGoal, WfMarked, WfQuery}
+use Rattle.rules.specs.Evaluation as rules
 use Rattle.rules.specs.Evaluation.{Level, Ended, evaluateLevel, zeroth, ended, stopped, withParked}
 use Rattle.report.specs.Reports.{stopOf}
 use Rattle.report.specs.declared.Report.{Report}
 use Rattle.goals.specs.Store.{Holding, markOf}
 use Rattle.goals.specs.declared.Mark as declared
+use Rattle.levels.specs.Levels.{accountOf, Later}
+use Rattle.levels.specs.declared.Account.{Account}
 use Rattle.levels.specs.declared.Turn.{Turn}
 use Rattle.levels.specs.declared.Turn.the-variants.{Empty, Park, More, Stopped}
 use Rattle.top_level.specs.declared.Counts.{Counts}
@@ -98,8 +101,8 @@ pub record SomeOpening (deckWords store : List ℕ) (parked held : ℕ) : Type 0
   pub opens : openDeck deckWords ≡ accepted deck
   pub stored : Stored (deck .symbols) store parked held (opening goals parkedGoals)
 
-abbrev pub evaluates : Started → Level → ℕ → Ended
-evaluates s l left = evaluateLevel (s .deck .clauses) (length (s .answers)) (length (s .store)) 32 zeroth l left
+abbrev pub evaluates : Started → Level → rules.Account → Ended
+evaluates s l a = evaluateLevel (s .deck .clauses) (length (s .answers)) (length (s .store)) 32 zeroth l a
 
 -- The answer list: the words of the answers of l, which are `count`; then what was there.
 pub record Lists (l : Level) (answers₀ answers : List ℕ) (filled count : ℕ) : Type 0 where
@@ -110,84 +113,86 @@ pub record Lists (l : Level) (answers₀ answers : List ℕ) (filled count : ℕ
 -- The run between two steps, and its end.
 pub record Goes (s : Started) (answers store : List ℕ) (p : Progress) : Type 0 where
   pub level : Level
-  pub same : evaluates s (begun s) (s .budget) ≡ evaluates s level (s .budget - p .used)
+  pub same : evaluates s (begun s) (rules.opening (s .budget)) ≡ evaluates s level (accountOf (p .account))
   pub stored : Stored (s .deck .symbols) store (p .parked) (p .held) level
   pub lists : Lists level (s .answers) answers (p .filled) (p .listed)
   pub size : length store ≡ length (s .store)
   pub room : length answers ≡ length (s .answers)
   pub inside : p .filled ≤ length answers
-  pub paid : p .used ≤ s .budget
-  pub few : p .listed ≤ p .used
+  pub paid : p .account .steps + p .account .left ≤ s .budget
+  pub few : p .listed ≤ p .filled
 
 pub record Stops (s : Started) (answers store : List ℕ) (e : End) : Type 0 where
   pub level : Level
-  pub same : evaluates s (begun s) (s .budget) ≡ ended (stopped (stopOf (e .stop))) level (s .budget - e .at .used)
+  pub same : evaluates s (begun s) (rules.opening (s .budget)) ≡ ended (stopped (stopOf (e .stop))) level (accountOf (e .at .account))
   pub stored : Stored (s .deck .symbols) store (e .at .parked) (e .at .held) level
   pub lists : Lists level (s .answers) answers (e .at .filled) (e .at .listed)
   pub size : length store ≡ length (s .store)
   pub room : length answers ≡ length (s .answers)
-  pub paid : e .at .used ≤ s .budget
+  pub paid : e .at .account .left ≤ s .budget
 
 pub record SomeStops (store : List ℕ) (e : End) : Type 0 where
   pub started : Started
   pub answers : List ℕ
   pub is : Stops started answers store e
 
--- The first pending goal has no literals, and there is a step left.
+-- The first pending goal has no literals, and something is left of the budget.
 pub record Bare (s : Started) (answers store : List ℕ) (p : Progress) : Type 0 where
   pub goes : Goes s answers store p
   pub goal : Goal
   pub others : List Goal
   pub first : goes .level .pending ≡ goal ∷ others
   pub empty : goal .literals ≡ []
-  pub pays : p .used < s .budget
+  pub pays : 0 < p .account .left
 
 pub record SomeBare (answers store : List ℕ) (p : Progress) : Type 0 where
   pub started : Started
   pub is : Bare started answers store p
 
--- The first pending goal is to be parked, and then k steps are used.
-pub record Waits (s : Started) (answers store : List ℕ) (p : Progress) (m : declared.Mark) (k : ℕ) : Type 0 where
+-- The first pending goal is to be parked, and b is the account then.
+pub record Waits (s : Started) (answers store : List ℕ) (p : Progress) (m : declared.Mark) (b : Account) : Type 0 where
   pub goes : Goes s answers store p
   pub goal : Goal
   pub others : List Goal
   pub first : goes .level .pending ≡ goal ∷ others
-  pub later : p .used < k
-  pub pays : k ≤ s .budget
-  pub same : evaluates s (goes .level) (s .budget - p .used) ≡ evaluates s (withParked (markOf m) goal others (goes .level)) (s .budget - k)
+  pub less : b .left < p .account .left
+  pub later : Later (p .account) b
+  pub same : evaluates s (goes .level) (accountOf (p .account)) ≡ evaluates s (withParked (markOf m) goal others (goes .level)) (accountOf b)
 
--- After h words are pending and k steps are used.
-abbrev pub moved : Progress → ℕ → ℕ → Progress
-moved p h k = record { parked = p .parked; held = h; used = k; filled = p .filled; listed = p .listed }
+-- With h words pending, and the account b.
+abbrev pub moved : Progress → ℕ → Account → Progress
+moved p h b = record { parked = p .parked; held = h; account = b; filled = p .filled; listed = p .listed }
 
 -- What a step came to at level 0.
 abbrev pub Stepped : Started → List ℕ → List ℕ → Progress → Turn → Type 0
 Stepped s answers store p Empty = Bare s answers store p
-Stepped s answers store p (Park m k) = Waits s answers store p m k
-Stepped s answers store p (More h k) = (p .used < k) × Goes s answers store (moved p h k)
-Stepped s answers store p (Stopped why k) = Stops s answers store (record { stop = why; at = moved p (p .held) k })
+Stepped s answers store p (Park m b) = Waits s answers store p m b
+Stepped s answers store p (More h b) = (b .left < p .account .left) × Goes s answers store (moved p h b)
+Stepped s answers store p (Stopped why b) = Stops s answers store (record { stop = why; at = moved p (p .held) b })
 
 pub record SomeStepped (answers store : List ℕ) (p : Progress) (t : Turn) : Type 0 where
   pub started : Started
   pub is : Stepped started answers store p t
 
--- Level 0 after that, with at least k steps used.
+-- Level 0 after that, with less than k left.
 abbrev pub Follows : Started → ℕ → List ℕ → List ℕ → Next → Type 0
-Follows s k answers store (On p) = (k ≤ p .used) × Goes s answers store p
+Follows s k answers store (On p) = (p .account .left < k) × Goes s answers store p
 Follows s k answers store (Ends e) = Stops s answers store e
 
--- The same, and where it goes on there is a goal to take a step on, and a step left.
+-- The same, and where it goes on there is a goal to take a step on, and something is left.
 abbrev pub Due : Started → ℕ → List ℕ → List ℕ → Next → Type 0
-Due s k answers store (On p) = (k ≤ p .used) × (0 < p .held) × (p .used < s .budget) × Goes s answers store p
+Due s k answers store (On p) = (p .account .left < k) × (0 < p .held) × (0 < p .account .left) × Goes s answers store p
 Due s k answers store (Ends e) = Stops s answers store e
 
 -- What level 0's run leaves and reports, started with the goals gs pending and ms parked.
 pub record Topped (d : Deck) (answers store : List ℕ) (gs : List Goal) (ms : List Marked) (budget : ℕ) (answers′ store′ : List ℕ) (r : Report) : Type 0 where
   pub level : Level
+  pub account : rules.Account
   pub ends :
-      evaluateLevel (d .clauses) (length answers) (length store) 32 zeroth (opening gs ms) budget
-      ≡ ended (stopped (stopOf (r .stop))) level (budget - r .steps)
-  pub within : r .steps ≤ budget
+      evaluateLevel (d .clauses) (length answers) (length store) 32 zeroth (opening gs ms) (rules.opening budget)
+      ≡ ended (stopped (stopOf (r .stop))) level account
+  pub steps : r .steps ≡ account .steps
+  pub cost : r .cost ≡ budget - account .left
   pub listed : answers′ ≡ writeGoals (unmarked (level .answers)) ++ drop (wordsOf (level .answers)) answers
   pub answered : r .answers ≡ length (level .answers)
   pub ordered : Ordered level store′ (record { pending = r .pending; parked = r .parked })

@@ -13,8 +13,9 @@ ghost use Rattle.clauses.specs.Clauses.{Indexed};
 ghost use Rattle.goals.specs.Store.{Holding, markOf};
 ghost use Rattle.top_level.specs.Top.{Stored, SomeStored, Written, SomeWritten, Queries, SomeQuery, Ordered, Topped, Started, Bare, SomeBare, Stepped, SomeStepped, Follows, Due, Stops, SomeStops, opening, SomeOpening, InOrder};
 use goals::Mark;
-use levels::Steps;
+use levels::Account;
 use levels::Turn;
+use levels::pay_one;
 use levels::take_step;
 use report::Report;
 use report::Stop;
@@ -27,12 +28,12 @@ pub struct Counts {
     pub parked: u32,
 }
 
-// Level 0 between two steps: how many words of the store its parked goals take, and how many its pending ones after them; the steps used;
+// Level 0 between two steps: how many words of the store its parked goals take, and how many its pending ones after them; the account;
 // how many words its answers take, and how many they are.
 pub struct Progress {
     pub parked: usize,
     pub held: usize,
-    pub used: u32,
+    pub account: Account,
     pub filled: usize,
     pub listed: u64,
 }
@@ -77,8 +78,8 @@ fn park(store: &mut [u16], parked: usize, held: usize, mark: Mark) -> usize
 // The first pending goal, which has no literals, goes to the answer list; or there is no room for it there.
 fn list(at: Progress, answers: &mut [u16], store: &[u16]) -> Next
     requires { ⌜ SomeBare (now answers) (now store) at ⌝ }
-    requires { ⌜ (at .used < 4294967295) × (length (now store) ≤ 65535) ⌝ }
-    ensures { λ r. ⌜ ((s : Started) → Bare s (now (answers .entry)) (now (store .entry)) at → Follows s (at .used + 1) (now (answers .exit)) (now (store .entry)) r) ⌝ }
+    requires { ⌜ (at .account .steps + at .account .left < 4294967296) × (length (now store) ≤ 65535) ⌝ }
+    ensures { λ r. ⌜ ((s : Started) → Bare s (now (answers .entry)) (now (store .entry)) at → Follows s (at .account .left) (now (answers .exit)) (now (store .entry)) r) ⌝ }
 {
     let end = at.parked + at.held;
     let n = wide(store[end - 1]);
@@ -90,7 +91,7 @@ fn list(at: Progress, answers: &mut [u16], store: &[u16]) -> Next
     Next::On(Progress {
         parked: at.parked,
         held: at.held - n,
-        used: at.used + 1,
+        account: pay_one(at.account),
         filled: at.filled + n,
         listed: at.listed + 1,
     })
@@ -99,36 +100,36 @@ fn list(at: Progress, answers: &mut [u16], store: &[u16]) -> Next
 // Level 0 after a step.
 fn follow(taken: Turn, at: Progress, answers: &mut [u16], store: &mut [u16]) -> Next
     requires { ⌜ SomeStepped (now answers) (now store) at taken ⌝ }
-    requires { ⌜ (at .used < 4294967295) × (length (now store) ≤ 65535) ⌝ }
-    ensures { λ r. ⌜ ((s : Started) → Stepped s (now (answers .entry)) (now (store .entry)) at taken → Follows s (at .used + 1) (now (answers .exit)) (now (store .exit)) r) ⌝ }
+    requires { ⌜ (at .account .steps + at .account .left < 4294967296) × (length (now store) ≤ 65535) ⌝ }
+    ensures { λ r. ⌜ ((s : Started) → Stepped s (now (answers .entry)) (now (store .entry)) at taken → Follows s (at .account .left) (now (answers .exit)) (now (store .exit)) r) ⌝ }
 {
     match taken {
         Turn::Empty => list(at, answers, store),
-        Turn::Park(mark, used) => {
+        Turn::Park(mark, account) => {
             let n = park(store, at.parked, at.held, mark);
             Next::On(Progress {
                 parked: at.parked + n,
                 held: at.held - n,
-                used,
+                account,
                 filled: at.filled,
                 listed: at.listed,
             })
         }
-        Turn::More(held, used) => {
+        Turn::More(held, account) => {
             let before = at.parked;
             Next::On(Progress {
                 parked: before,
                 held,
-                used,
+                account,
                 filled: at.filled,
                 listed: at.listed,
             })
         }
-        Turn::Stopped(stop, used) => {
+        Turn::Stopped(stop, account) => {
             let last = Progress {
                 parked: at.parked,
                 held: at.held,
-                used,
+                account,
                 filled: at.filled,
                 listed: at.listed,
             };
@@ -137,9 +138,9 @@ fn follow(taken: Turn, at: Progress, answers: &mut [u16], store: &mut [u16]) -> 
     }
 }
 
-// Level 0 is finished where nothing is pending, and stops where the budget is spent.
-fn due(next: Next, budget: u32) -> Next
-    ensures { λ r. ⌜ ((s : Started) (k : ℕ) (answers store : List ℕ) → s .budget ≡ budget → Follows s k answers store next → Due s k answers store r) ⌝ }
+// Level 0 is finished where nothing is pending, and stops where nothing is left of the budget.
+fn due(next: Next) -> Next
+    ensures { λ r. ⌜ ((s : Started) (k : ℕ) (answers store : List ℕ) → Follows s k answers store next → Due s k answers store r) ⌝ }
 {
     match next {
         Next::On(at) => {
@@ -147,7 +148,8 @@ fn due(next: Next, budget: u32) -> Next
                 let stop = Stop::Finished;
                 return Next::Ends(End { stop, at });
             }
-            if at.used == budget {
+            let account = at.account;
+            if account.left == 0 {
                 let stop = Stop::Budget;
                 return Next::Ends(End { stop, at });
             }
@@ -158,17 +160,19 @@ fn due(next: Next, budget: u32) -> Next
 }
 
 // Puts the goals that are left in order, and reports.
-fn report(end: End, store: &mut [u16]) -> Report
+fn report(end: End, budget: u32, store: &mut [u16]) -> Report
     requires { ⌜ SomeStops (now store) end ⌝ }
-    requires { ⌜ length (now store) ≤ 65535 ⌝ }
-    ensures { λ r. ⌜ ((s : Started) (answers : List ℕ) → Stops s answers (now (store .entry)) end → Topped (s .deck) (s .answers) (s .store) (s .goals) (s .parked) (s .budget) answers (now (store .exit)) r) ⌝ }
+    requires { ⌜ (end .at .account .left ≤ budget) × (length (now store) ≤ 65535) ⌝ }
+    ensures { λ r. ⌜ ((s : Started) (answers : List ℕ) → s .budget ≡ budget → Stops s answers (now (store .entry)) end → Topped (s .deck) (s .answers) (s .store) (s .goals) (s .parked) (s .budget) answers (now (store .exit)) r) ⌝ }
 {
     let stop = end.stop;
     let at = end.at;
+    let account = at.account;
     let counts = order_goals(store, at.parked, at.held);
     Report {
         stop,
-        steps: at.used,
+        steps: account.steps,
+        cost: budget - account.left,
         answers: at.listed,
         pending: counts.pending,
         parked: counts.parked,
@@ -193,27 +197,30 @@ pub fn top(
     requires { ⌜ (8192 ≤ length (now cells)) × (length (now store) ≤ 65535) × Indexed (now deck) (now index) ⌝ }
     ensures { λ r. ⌜ ((d : Deck) (gs : List Goal) (ms : List Marked) → openDeck (now (deck .entry)) ≡ accepted d → Stored (d .symbols) (now (store .entry)) parked held (opening gs ms) → Topped d (now (answers .entry)) (now (store .entry)) gs ms budget (now (answers .exit)) (now (store .exit)) r) ⌝ }
 {
+    let account = Account {
+        left: budget,
+        steps: 0,
+    };
     let begin = Progress {
         parked,
         held,
-        used: 0,
+        account,
         filled: 0,
         listed: 0,
     };
-    let mut next = due(Next::On(begin), budget);
+    let mut next = due(Next::On(begin));
     loop {
         match next {
             Next::On(at) => {
                 let from = at.parked;
                 let h = at.held;
-                let used = at.used;
-                let steps = Steps { budget, used };
+                let paid = at.account;
                 let part = &mut store[from..];
-                let taken = take_step(deck, 32, part, h, steps, cells, table, draft, index);
-                next = due(follow(taken, at, answers, store), budget);
+                let taken = take_step(deck, 32, part, h, paid, cells, table, draft, index);
+                next = due(follow(taken, at, answers, store));
             }
             Next::Ends(end) => {
-                return report(end, store);
+                return report(end, budget, store);
             }
         }
     }

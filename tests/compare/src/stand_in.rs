@@ -2,6 +2,7 @@
 
 use second::carry::judge::Engine as Continues;
 use second::carry::{slips, Given};
+use second::cost::slips::SLIPS as PAYING;
 use second::judge::{Engine as Runs, Lent, Report};
 use second::loose::slips as loose;
 use second::text::judge::{Engine, Second};
@@ -16,12 +17,18 @@ static ENGINE: LazyLock<&dyn Engine> = LazyLock::new(|| match SLIPS.iter().find(
 
 static CONTINUES: LazyLock<&dyn Continues> = LazyLock::new(|| match slips::SLIPS.iter().find(|slip| named(slip.name)) {
     Some(slip) => slip,
-    None => &second::judge::Second,
+    None => match PAYING.iter().find(|slip| named(slip.name)) {
+        Some(slip) => slip,
+        None => &second::judge::Second,
+    },
 });
 
 static RUNS: LazyLock<&(dyn Runs + Sync)> = LazyLock::new(|| match loose::SLIPS.iter().find(|slip| named(slip.name)) {
     Some(slip) => slip,
-    None => &second::judge::Second,
+    None => match PAYING.iter().find(|slip| named(slip.name)) {
+        Some(slip) => slip,
+        None => &second::judge::Second,
+    },
 });
 
 /// The slip of this name is asked for. A name that no slip has is an error.
@@ -29,7 +36,8 @@ fn named(name: &str) -> bool {
     std::env::var("SLIP").is_ok_and(|wanted| {
         let texts = SLIPS.iter().map(|slip| slip.name);
         let runs = loose::SLIPS.iter().map(|slip| slip.name);
-        let mut all = texts.chain(slips::SLIPS.iter().map(|slip| slip.name)).chain(runs);
+        let paying = PAYING.iter().map(|slip| slip.name);
+        let mut all = texts.chain(slips::SLIPS.iter().map(|slip| slip.name)).chain(runs).chain(paying);
         assert!(all.any(|one| one == wanted), "no slip of this name");
         wanted == name
     })
@@ -72,6 +80,7 @@ pub unsafe extern "C" fn leads_run(
     scratch_words: usize,
     stop: *mut u32,
     steps: *mut u32,
+    cost: *mut u32,
     answer_count: *mut u64,
     pending: *mut u32,
     parked: *mut u32,
@@ -86,7 +95,7 @@ pub unsafe extern "C" fn leads_run(
     let mut report = Report::default();
     let number = RUNS.run(deck, query, budget, lent, &mut report);
     if number == 0 {
-        (*stop, *steps, *answer_count) = (report.stop, report.steps, report.answers);
+        (*stop, *steps, *cost, *answer_count) = (report.stop, report.steps, report.cost, report.answers);
         (*pending, *parked) = (report.pending, report.parked);
     }
     number
@@ -111,6 +120,7 @@ pub unsafe extern "C" fn leads_continue(
     scratch_words: usize,
     stop: *mut u32,
     steps: *mut u32,
+    cost: *mut u32,
     answer_count: *mut u64,
     pending_after: *mut u32,
     parked_after: *mut u32,
@@ -125,12 +135,13 @@ pub unsafe extern "C" fn leads_continue(
     let mut report = Report {
         stop: *stop,
         steps: *steps,
+        cost: *cost,
         answers: *answer_count,
         pending: *pending_after,
         parked: *parked_after,
     };
     let number = CONTINUES.carry_on(deck, given, budget, lent, &mut report);
-    (*stop, *steps, *answer_count) = (report.stop, report.steps, report.answers);
+    (*stop, *steps, *cost, *answer_count) = (report.stop, report.steps, report.cost, report.answers);
     (*pending_after, *parked_after) = (report.pending, report.parked);
     number
 }

@@ -21,7 +21,7 @@ fn is_listing(text: &str) -> bool {
         return false;
     };
     let numbers: Vec<u32> = numbers.split(' ').filter_map(number).collect();
-    let [steps, answers, pending, parked] = numbers[..] else {
+    let [steps, answers, pending, parked, cost] = numbers[..] else {
         return false;
     };
     let expected = match (stop, pending, parked, answers) {
@@ -33,9 +33,10 @@ fn is_listing(text: &str) -> bool {
     };
     let rest: Vec<&str> = lines.collect();
     verdict == Some(expected)
-        && counts == format!("{stop} {steps} {answers} {pending} {parked}")
-        && (steps < 100_000 || stop == "finished" || stop == "budget")
-        && (steps == 100_000 || stop != "budget")
+        && counts == format!("{stop} {steps} {answers} {pending} {parked} {cost}")
+        && steps <= cost
+        && cost <= 100_000
+        && (cost < 100_000 || stop == "finished" || stop == "budget")
         && rest.len() == answers as usize
         && rest.iter().all(|line| *line == "true" || line.split(' ').all(is_term))
 }

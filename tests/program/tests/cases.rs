@@ -85,6 +85,6 @@ fn files_are_as_written() {
 #[test]
 fn the_long_listing_is_long() {
     let text = String::from_utf8(long_listing().listing()).expect("plain text");
-    assert!(text.starts_with("open\nanswers 108 8 1 0\n"), "{}", &text[..40]);
+    assert!(text.starts_with("open\nanswers 108 8 1 0 495\n"), "{}", &text[..40]);
     assert!(text.len() > 56_000, "{}", text.len());
 }

@@ -11,6 +11,7 @@ pub mod vectors;
 
 pub use case::CarryCase;
 
+use crate::cost::Slip;
 use crate::evaluation::{evaluate, Limits, Outcome};
 
 /// What the caller says of the goals at the start of the store.
@@ -74,6 +75,19 @@ pub fn carry_on(
     answer_words: usize,
     scratch_words: usize,
 ) -> Result<Outcome, Refused> {
+    let sizes = (answer_words, scratch_words);
+    carry_with(deck, store, given, budget, sizes, Slip::None)
+}
+
+/// The lengths of answers and scratch are `sizes`.
+pub(crate) fn carry_with(
+    deck: &[u16],
+    store: &[u16],
+    given: Given,
+    budget: u32,
+    (answer_words, scratch_words): (usize, usize),
+    slip: Slip,
+) -> Result<Outcome, Refused> {
     let deck = crate::deck::open(deck).map_err(Refused::Before)?;
     crate::lent(store.len(), scratch_words).map_err(Refused::Before)?;
     let start = stored::read(&deck.symbols, store, given).map_err(Refused::Goals)?;
@@ -83,5 +97,5 @@ pub fn carry_on(
         answer_words,
         store_words: store.len(),
     };
-    Ok(evaluate(&deck, start, limits))
+    Ok(evaluate(&deck, start, limits, slip))
 }

@@ -1,7 +1,8 @@
 //! The evaluation with negation as failure, as a stack of levels.
 
+use crate::cost::{Slip, Tally};
 use crate::deck::Deck;
-use crate::goals::{Goal, Mark, Resolvent, MOST_GOAL_WORDS};
+use crate::goals::{Goal, Mark, Matched, MOST_GOAL_WORDS};
 use crate::query::Query;
 use std::cell::Cell;
 
@@ -26,6 +27,7 @@ pub struct Limits {
 pub struct Outcome {
     pub stop: Stop,
     pub steps: u32,
+    pub cost: u32,
     pub answers: Vec<Vec<u16>>,
     pub pending: Vec<Vec<u16>>,
     pub parked: Vec<Vec<u16>>,
@@ -51,6 +53,12 @@ pub struct Watch {
     pub closed: [u32; 3],
     /// Clauses tried: those about the selected literal's predicate, over all steps.
     pub tried: Cell<u64>,
+    /// What each step cost.
+    pub costs: Vec<u64>,
+    /// A step could not be paid: what was left for it.
+    pub left: u64,
+    /// Oversized goals were derived in a step that could not be paid.
+    pub unpaid: Cell<bool>,
 }
 
 struct Level {
@@ -73,6 +81,9 @@ enum Plan {
     Descend(Goal),
 }
 
+/// A plan and its cost.
+type Priced = (Plan, u64);
+
 enum Closing {
     Succeeded,
     Clean,
@@ -86,10 +97,14 @@ struct Evaluation<'a> {
     /// Words of level 0's goals and of all pending goals deeper.
     held: usize,
     steps: u32,
+    cost: u64,
+    /// With a slip: of the cost, what is not told.
+    lost: u64,
     answers: Vec<Vec<u16>>,
     answered_words: usize,
     parked: Vec<(Goal, Mark)>,
     watch: Watch,
+    slip: Slip,
 }
 
 /// The goals that an evaluation starts from.
@@ -110,7 +125,7 @@ impl Start {
 
 const DEEPEST: usize = 32;
 
-pub fn evaluate(deck: &Deck, start: Start, limits: Limits) -> Outcome {
+pub fn evaluate(deck: &Deck, start: Start, limits: Limits, slip: Slip) -> Outcome {
     let held = start.parked.iter().map(|(goal, _)| goal.words).sum();
     let mut evaluation = Evaluation {
         deck,
@@ -118,10 +133,13 @@ pub fn evaluate(deck: &Deck, start: Start, limits: Limits) -> Outcome {
         levels: Vec::new(),
         held,
         steps: 0,
+        cost: 0,
+        lost: 0,
         answers: Vec::new(),
         answered_words: 0,
         parked: start.parked,
         watch: Watch::default(),
+        slip,
     };
     evaluation.start_level(start.pending);
     let stop = evaluation.work();
@@ -138,10 +156,12 @@ impl Evaluation<'_> {
                 self.close_finished();
                 continue;
             }
-            if self.steps == self.limits.budget {
-                return Stop::Budget;
+            if let Some(stop) = self.early_stop() {
+                return stop;
             }
-            let plan = self.plan();
+            let Some((plan, cost)) = self.payable() else {
+                return self.cannot_pay();
+            };
             if matches!(plan, Plan::Answer) && !self.answer_fits() {
                 return Stop::Answers;
             }
@@ -150,10 +170,72 @@ impl Evaluation<'_> {
                 self.watch.refused_held = held;
                 return Stop::Store;
             }
-            self.steps += 1;
+            self.pay(cost);
             self.take(plan);
             debug_assert!(self.held == self.count_held());
             self.watch.most_held = self.watch.most_held.max(held);
+        }
+    }
+
+    /// The next step, if its whole cost is left.
+    fn payable(&self) -> Option<Priced> {
+        let left = self.left();
+        self.plan(left).or_else(|| self.beyond(left))
+    }
+
+    fn left(&self) -> u64 {
+        let spent = match self.slip {
+            Slip::StepsLeft => self.steps as u64,
+            _ => self.cost,
+        };
+        (self.limits.budget as u64).saturating_sub(spent)
+    }
+
+    /// A step was not taken.
+    fn cannot_pay(&mut self) -> Stop {
+        self.watch.left = self.left();
+        match self.slip {
+            Slip::SpentNotTaken => self.cost += self.left(),
+            Slip::CountedNotTaken => self.steps += 1,
+            _ => {}
+        }
+        Stop::Budget
+    }
+
+    fn pay(&mut self, cost: u64) {
+        self.steps += 1;
+        self.cost += cost;
+        self.watch.costs.push(cost);
+        if self.slip == Slip::InnerLost && self.depth() > 0 {
+            self.lost += cost;
+        }
+    }
+
+    /// With a slip: a step that is taken though it cannot be paid.
+    fn beyond(&self, left: u64) -> Option<Priced> {
+        let (plan, cost) = match self.slip {
+            Slip::Partly | Slip::OversizedFirst if left > 0 => self.plan(u64::MAX)?,
+            Slip::StepsLeft if left > 0 => self.plan(u64::MAX)?,
+            Slip::Late if left > 0 => self.plan(left + 1)?,
+            _ => return None,
+        };
+        match self.slip {
+            Slip::OversizedFirst if !matches!(plan, Plan::Park(Mark::Oversized)) => None,
+            Slip::Partly | Slip::OversizedFirst => Some((plan, cost.min(left))),
+            _ => Some((plan, cost)),
+        }
+    }
+
+    /// With a slip: a stop that comes before "budget".
+    fn early_stop(&self) -> Option<Stop> {
+        let (plan, _) = match self.slip {
+            Slip::AnswersFirst | Slip::StoreFirst => self.plan(u64::MAX)?,
+            _ => return None,
+        };
+        let store = self.held_after(&plan) > self.limits.store_words;
+        match self.slip {
+            Slip::StoreFirst => store.then_some(Stop::Store),
+            _ => (matches!(plan, Plan::Answer) && !self.answer_fits()).then_some(Stop::Answers),
         }
     }
 
@@ -173,51 +255,56 @@ impl Evaluation<'_> {
         self.top().pending.last().expect("a goal is pending")
     }
 
-    fn plan(&self) -> Plan {
+    /// What the next step does and costs, if that is at most what is left.
+    fn plan(&self, left: u64) -> Option<Priced> {
         let goal = self.first();
         let level = self.depth();
-        if goal.literals.is_empty() {
-            return if level == 0 {
-                Plan::Answer
-            } else {
-                Plan::Succeed
-            };
+        let positive = |at: &usize| !goal.literals[*at].negated;
+        if let Some(at) = goal.select().filter(positive) {
+            return self.resolve(goal, at, left);
         }
-        let Some(at) = goal.select() else {
-            return Plan::Park(Mark::Floundered);
+        let plan = match goal.select() {
+            None if goal.literals.is_empty() && level == 0 => Plan::Answer,
+            None if goal.literals.is_empty() => Plan::Succeed,
+            None => Plan::Park(Mark::Floundered),
+            Some(_) if level == DEEPEST => Plan::Park(Mark::Deep),
+            Some(at) => Plan::Descend(Goal::inner(&goal.literals[at].atom)),
         };
-        let literal = &goal.literals[at];
-        if !literal.negated {
-            self.resolve(goal, at)
-        } else if level == DEEPEST {
-            Plan::Park(Mark::Deep)
-        } else {
-            Plan::Descend(Goal::inner(&literal.atom))
-        }
+        let cost = (self.slip != Slip::OthersFree) as u64;
+        (cost <= left).then_some((plan, cost))
     }
 
-    /// All resolvents of the selected literal; one too long parks the goal.
-    fn resolve(&self, goal: &Goal, at: usize) -> Plan {
+    /// All resolvents of the selected literal; one too long parks the goal. Every clause about the predicate is counted.
+    fn resolve(&self, goal: &Goal, at: usize, left: u64) -> Option<Priced> {
         let room = self.limits.store_words + goal.words - self.held;
         let predicate = goal.literals[at].atom.symbol as usize;
         let mut derived = Vec::new();
-        let mut words = 0;
+        let (mut words, mut oversized) = (0, false);
+        let mut tally = Tally::new(left, self.slip)?;
         for number in &self.deck.about[predicate] {
             let clause = &self.deck.clauses[*number];
             self.watch.tried.set(self.watch.tried.get() + 1);
-            let Some(resolvent) = Resolvent::new(goal, at, clause) else {
+            self.watch.unpaid.set(oversized);
+            let matched = Matched::new(goal, at, clause, tally.most(), self.slip);
+            let Some(resolvent) = tally.add(matched)? else {
                 continue;
             };
             let length = resolvent.words();
-            if length > MOST_GOAL_WORDS {
-                return Plan::Park(Mark::Oversized);
+            oversized |= length > MOST_GOAL_WORDS;
+            if oversized && self.slip == Slip::OversizedEnds {
+                break;
             }
-            words += length;
-            if words <= room {
+            words += length.min(MOST_GOAL_WORDS);
+            if !oversized && words <= room {
                 derived.push(resolvent.write_out());
             }
         }
-        Plan::Replace { derived, words }
+        self.watch.unpaid.set(false);
+        let plan = match oversized {
+            true => Plan::Park(Mark::Oversized),
+            false => Plan::Replace { derived, words },
+        };
+        (tally.cost() <= left).then_some((plan, tally.cost()))
     }
 
     fn answer_fits(&self) -> bool {
@@ -301,6 +388,7 @@ impl Evaluation<'_> {
 
     /// Ends the deepest level and settles the literal that began it.
     fn close(&mut self, closing: Closing) {
+        self.cost += (self.slip == Slip::ClosingCosts) as u64;
         let level = self.levels.pop().expect("a level is under way");
         self.held -= level.pending.iter().map(|goal| goal.words).sum::<usize>();
         self.watch.closed[match closing {
@@ -334,6 +422,7 @@ impl Evaluation<'_> {
         Outcome {
             stop,
             steps: self.steps,
+            cost: (self.cost - self.lost) as u32,
             pending: pending.map(|goal| goal.to_words(Mark::Pending)).collect(),
             parked: parked.map(|(goal, mark)| goal.to_words(*mark)).collect(),
             answers: self.answers,

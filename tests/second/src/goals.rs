@@ -1,5 +1,6 @@
 //! Goals: answer terms, then literals.
 
+use crate::cost::Slip;
 use crate::deck::Clause;
 use crate::query::Query;
 use crate::terms::{Applied, Literal, Term};
@@ -95,19 +96,39 @@ pub struct Resolvent<'a> {
     unifier: Unifier,
 }
 
-impl<'a> Resolvent<'a> {
-    /// None where the head doesn't match the literal.
-    pub fn new(goal: &'a Goal, at: usize, clause: &'a Clause) -> Option<Resolvent<'a>> {
+/// A goal's literal matched with a clause's head.
+pub struct Matched<'a> {
+    /// The equations taken, the failing one included.
+    pub equations: u64,
+    pub resolvent: Option<Resolvent<'a>>,
+}
+
+impl<'a> Matched<'a> {
+    /// None where over `most` equations would be taken.
+    pub fn new(
+        goal: &'a Goal,
+        at: usize,
+        clause: &'a Clause,
+        most: u64,
+        slip: Slip,
+    ) -> Option<Matched<'a>> {
         let atom = &goal.literals[at].atom;
-        let unifier = unify(atom, goal.variables, &clause.head, clause.variables)?;
-        Some(Resolvent {
+        let (head, variables) = (&clause.head, clause.variables);
+        let counted = unify(atom, goal.variables, head, variables, most, slip)?;
+        let resolvent = counted.unifier.map(|unifier| Resolvent {
             goal,
             at,
             clause,
             unifier,
+        });
+        Some(Matched {
+            equations: counted.equations,
+            resolvent,
         })
     }
+}
 
+impl<'a> Resolvent<'a> {
     /// The literals in order, the clause's body after the remaining ones (U3), each with its variables' shift.
     fn literals(&self) -> impl Iterator<Item = (&'a Literal, usize)> {
         let (goal, at, shift) = (self.goal, self.at, self.goal.variables);

@@ -13,6 +13,7 @@ use crate::guarded::Guarded;
 pub struct Report {
     pub stop: u32,
     pub steps: u32,
+    pub cost: u32,
     pub answers: u64,
     pub pending: u32,
     pub parked: u32,
@@ -80,6 +81,7 @@ pub(crate) fn report_of(outcome: &Outcome) -> Report {
     Report {
         stop: outcome.stop as u32,
         steps: outcome.steps,
+        cost: outcome.cost,
         answers: outcome.answers.len() as u64,
         pending: outcome.pending.len() as u32,
         parked: outcome.parked.len() as u32,

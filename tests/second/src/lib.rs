@@ -5,6 +5,7 @@
 
 pub mod carry;
 pub mod case;
+pub mod cost;
 pub mod deck;
 pub mod evaluation;
 pub mod goals;
@@ -26,6 +27,7 @@ pub use case::Case;
 pub use evaluation::{Outcome, Stop};
 pub use listing::program;
 
+use cost::Slip;
 use evaluation::{Limits, Start};
 
 const STORE_WORDS: std::ops::RangeInclusive<usize> = 1_024..=65_535;
@@ -61,21 +63,23 @@ pub fn run(
         answer_words,
         store_words,
     };
-    run_checked(deck, query, limits, scratch_words, loose::both)
+    run_with(deck, query, limits, scratch_words, loose::both, Slip::None)
 }
 
-fn run_checked(
+fn run_with(
     deck: &[u16],
     query: &[u16],
     limits: Limits,
     scratch_words: usize,
     checks: loose::Checks,
+    slip: Slip,
 ) -> Result<Outcome, u32> {
     let deck = deck::open(deck)?;
     let query = query::read(&deck, query)?;
     lent(limits.store_words, scratch_words)?;
     checks(&deck, &query)?;
-    Ok(evaluation::evaluate(&deck, Start::fresh(query), limits))
+    let start = Start::fresh(query);
+    Ok(evaluation::evaluate(&deck, start, limits, slip))
 }
 
 /// Refusals 8 and 9.

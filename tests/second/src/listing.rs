@@ -65,13 +65,14 @@ pub fn words(bytes: &[u8]) -> Vec<u16> {
 
 pub fn listing(symbols: &[Symbol], outcome: &Outcome) -> String {
     let mut text = format!(
-        "{}\n{} {} {} {} {}\n",
+        "{}\n{} {} {} {} {} {}\n",
         verdict(outcome),
         stop_name(outcome.stop),
         outcome.steps,
         outcome.answers.len(),
         outcome.pending.len(),
-        outcome.parked.len()
+        outcome.parked.len(),
+        outcome.cost
     );
     for answer in &outcome.answers {
         answer_line(symbols, answer, &mut text);

@@ -7,7 +7,7 @@ mod families;
 mod limits;
 mod programs;
 mod signature;
-mod sizes;
+pub(crate) mod sizes;
 mod stress;
 pub mod texts;
 mod tight;
@@ -22,7 +22,7 @@ struct Family {
     name: &'static str,
     /// How often it is drawn.
     weight: usize,
-    most_steps: u32,
+    most_cost: u32,
     make: fn(&mut Dice) -> World,
     /// How loose variables are dealt with.
     ways: Ways,
@@ -33,7 +33,7 @@ const fn family(name: &'static str, weight: usize, make: fn(&mut Dice) -> World)
     Family {
         name,
         weight,
-        most_steps: 3_000,
+        most_cost: 12_000,
         make,
         ways: Ways::Any,
         tune: |_, _| (),
@@ -48,7 +48,7 @@ const fn exact(name: &'static str, weight: usize, make: fn(&mut Dice) -> World) 
     }
 }
 
-const FAMILIES: [Family; 17] = [
+const FAMILIES: [Family; 18] = [
     family("mixed", 24, families::mixed),
     family("graph", 14, families::graph),
     family("lists", 10, programs::lists),
@@ -62,10 +62,12 @@ const FAMILIES: [Family; 17] = [
     exact("nested", 4, stress::nested),
     exact("doubling", 5, stress::doubling),
     exact("twins", 2, stress::twins),
+    exact("vast", 2, stress::vast),
     exact("many", 2, limits::many_variables),
     family("wide", 3, limits::wide),
     Family {
-        most_steps: 20,
+        most_cost: 60_000,
+        tune: limits::large_sizes,
         ..family("large", 1, limits::large)
     },
     Family {
@@ -97,7 +99,7 @@ pub fn case(seed: u64) -> Case {
     let family = &FAMILIES[dice.weighted(&weights)];
     let mut world = (family.make)(&mut dice);
     let settled = settle(&mut dice, &mut world, family.ways);
-    let mut case = sizes::sized(&mut dice, &world, family.most_steps);
+    let mut case = sizes::sized(&mut dice, &world, family.most_cost);
     (family.tune)(&mut dice, &mut case);
     case.name = format!("{}-{seed}{settled}", family.name);
     if dice.chance(1, 5) {

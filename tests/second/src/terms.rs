@@ -69,22 +69,6 @@ impl Applied {
             argument.write(out);
         }
     }
-
-    /// Equality, for atoms and terms without variables.
-    pub fn same_ground(self: &Rc<Self>, other: &Rc<Self>) -> bool {
-        Rc::ptr_eq(self, other)
-            || (self.symbol == other.symbol
-                && self.words == other.words
-                && self.arguments.len() == other.arguments.len()
-                && self
-                    .arguments
-                    .iter()
-                    .zip(&other.arguments)
-                    .all(|pair| match pair {
-                        (Term::Applied(a), Term::Applied(b)) => a.same_ground(b),
-                        _ => false,
-                    }))
-    }
 }
 
 impl Literal {

@@ -1,15 +1,17 @@
-//! Unification by classes of equal nodes, on a graph of shared terms.
+//! Unification by classes of equal nodes, on a graph of shared terms, with its equations counted.
 //!
-//! Nothing is substituted while equations are worked off: nodes that must be
-//! equal are put into one class. Afterwards one walk over the classes makes
-//! the occurs check and measures every class, each once. So the cost follows
-//! the cells read, even where the terms written out would be exponential.
+//! Nothing is substituted while equations are worked off: nodes found equal are
+//! put into one class. An equation between two nodes of one class would be
+//! taken apart down to its leaves; their number is the term's size, which is
+//! worked out on the graph. So the cost follows the cells read, even where the
+//! terms written out, and the equations, would be exponential.
 
+use crate::cost::Slip;
 use crate::terms::{Applied, Literal, Term};
 use std::rc::Rc;
 
-/// Sizes are counted up to this many words; more is "too many".
-pub const TOO_MANY: usize = 1_025;
+/// Sizes and numbers of equations are counted up to this; it is over every budget.
+const MOST: u64 = 1 << 40;
 
 /// A term at a place: clause variables are shifted past the goal's.
 #[derive(Clone)]
@@ -20,45 +22,66 @@ struct Placed {
     children: Option<usize>,
 }
 
-#[derive(Clone, Copy, PartialEq)]
-enum Measure {
-    Unknown,
-    UnderWay,
-    Words(usize),
-}
-
 /// Nodes are numbered: all variables first, then the placed terms met.
 pub struct Unifier {
     variables: usize,
     placed: Vec<Placed>,
     parent: Vec<usize>,
     children: Vec<usize>,
-    measure: Vec<Measure>,
+    /// By class, 0 where it is not known; true of the classes as they are.
+    sizes: Vec<u64>,
+    sized: bool,
+    /// The walk in which a class was last met.
+    seen: Vec<u32>,
+    walk: u32,
 }
 
-/// The most general unifier of a goal's atom and a clause's head.
+/// A match that came to its end.
+pub struct Counted {
+    /// The equations taken, the failing one included.
+    pub equations: u64,
+    /// The most general unifier, if there is one.
+    pub unifier: Option<Unifier>,
+}
+
+enum Work {
+    Equation(usize, usize),
+    /// All their arguments have been found equal.
+    Join(usize, usize),
+}
+
+/// A goal's atom and the head of a clause about its predicate; None where over `most` equations would be taken.
 pub fn unify(
     atom: &Applied,
     goal_variables: usize,
     head: &Applied,
     clause_variables: usize,
-) -> Option<Unifier> {
-    if atom.symbol != head.symbol || atom.arguments.len() != head.arguments.len() {
-        return None;
-    }
+    most: u64,
+    slip: Slip,
+) -> Option<Counted> {
     let mut unifier = Unifier::new(goal_variables + clause_variables);
-    let mut equations = Vec::new();
+    let mut list = Vec::new();
     for (left, right) in atom.arguments.iter().zip(&head.arguments) {
         let left = unifier.node(left, 0);
         let right = unifier.node(right, goal_variables);
-        equations.push((left, right));
+        list.push(Work::Equation(left, right));
     }
-    while let Some((left, right)) = equations.pop() {
-        if !unifier.equate(left, right, &mut equations) {
+    list.reverse();
+    let mut equations = 0;
+    while let Some(work) = list.pop() {
+        let (number, equal) = unifier.work_off(work, &mut list, slip);
+        equations = (equations + number).min(MOST);
+        if equations > most {
             return None;
         }
+        if !equal {
+            let unifier = None;
+            return Some(Counted { equations, unifier });
+        }
     }
-    unifier.occurs_check().then_some(unifier)
+    unifier.measure();
+    let unifier = Some(unifier);
+    Some(Counted { equations, unifier })
 }
 
 impl Unifier {
@@ -68,7 +91,10 @@ impl Unifier {
             placed: Vec::new(),
             parent: (0..variables).collect(),
             children: Vec::new(),
-            measure: Vec::new(),
+            sizes: vec![0; variables],
+            sized: false,
+            seen: vec![0; variables],
+            walk: 0,
         }
     }
 
@@ -78,6 +104,8 @@ impl Unifier {
             Term::Applied(applied) => {
                 let node = self.parent.len();
                 self.parent.push(node);
+                self.sizes.push(0);
+                self.seen.push(0);
                 self.placed.push(Placed {
                     applied: applied.clone(),
                     shift,
@@ -113,34 +141,92 @@ impl Unifier {
         class.checked_sub(self.variables).map(|at| &self.placed[at])
     }
 
-    /// Puts two nodes into one class; false on a clash.
-    fn equate(&mut self, left: usize, right: usize, equations: &mut Vec<(usize, usize)>) -> bool {
-        let (left, right) = (self.class_of(left), self.class_of(right));
+    /// The equations that are taken without more being said of them, and whether they hold. What is left of them is put on the list.
+    fn work_off(&mut self, work: Work, list: &mut Vec<Work>, slip: Slip) -> (u64, bool) {
+        let (left, right) = match work {
+            Work::Equation(left, right) => (self.class_of(left), self.class_of(right)),
+            Work::Join(left, right) => {
+                let (left, right) = (self.class_of(left), self.class_of(right));
+                self.parent[left] = right;
+                return (0, true);
+            }
+        };
         if left == right {
-            return true;
+            return (self.equal_terms(left, slip), true);
         }
+        let failing = (slip != Slip::FailingFree) as u64;
         let (Some(a), Some(b)) = (self.placed(left), self.placed(right)) else {
-            let (from, to) = if left < self.variables {
-                (left, right)
-            } else {
-                (right, left)
-            };
-            self.parent[from] = to;
-            return true;
+            let equal = self.eliminate(left, right);
+            return (if equal { 1 } else { failing }, equal);
         };
         let (a, b) = (a.applied.clone(), b.applied.clone());
-        self.parent[left] = right;
-        if a.ground && b.ground {
-            return a.same_ground(&b);
+        if a.symbol != b.symbol {
+            return (failing, false);
         }
-        if a.symbol != b.symbol || a.arguments.len() != b.arguments.len() {
+        if a.ground && b.ground {
+            return self.ground_terms(left, right, failing, slip);
+        }
+        self.take_apart(left, right, list, slip);
+        (1, true)
+    }
+
+    /// A term and itself.
+    fn equal_terms(&mut self, class: usize, slip: Slip) -> u64 {
+        match slip {
+            Slip::EqualSkipped => 1,
+            Slip::DroppedFree if class < self.variables => 0,
+            _ => self.size(class),
+        }
+    }
+
+    /// Terms without variables.
+    fn ground_terms(&mut self, left: usize, right: usize, failing: u64, slip: Slip) -> (u64, bool) {
+        let [a, b] = [left, right].map(|node| self.placed[node - self.variables].applied.clone());
+        let (number, equal) = ground_equations(&a, &b);
+        if equal {
+            self.parent[left] = right;
+        }
+        let number = if equal { number } else { number - 1 + failing };
+        match slip {
+            Slip::GroundAtOnce => (number.min(1), equal),
+            _ => (number, equal),
+        }
+    }
+
+    /// A variable and another term: they get one class, unless the term contains the variable.
+    fn eliminate(&mut self, left: usize, right: usize) -> bool {
+        let (variable, term) = if left < self.variables {
+            (left, right)
+        } else {
+            (right, left)
+        };
+        self.walk += 1;
+        if self.contains(term, variable) {
             return false;
         }
-        let (from, to) = (self.lay_out(left), self.lay_out(right));
-        for at in 0..a.arguments.len() {
-            equations.push((self.children[from + at], self.children[to + at]));
+        self.parent[variable] = term;
+        if self.sized {
+            self.sizes.fill(0);
+            self.sized = false;
         }
         true
+    }
+
+    /// Two functors that are the same: their arguments are paired, in order.
+    fn take_apart(&mut self, left: usize, right: usize, list: &mut Vec<Work>, slip: Slip) {
+        list.push(Work::Join(left, right));
+        let (from, to) = (self.lay_out(left), self.lay_out(right));
+        let arguments = self.placed[left - self.variables].applied.arguments.len();
+        let first = list.len();
+        for at in (0..arguments).rev() {
+            list.push(Work::Equation(
+                self.children[from + at],
+                self.children[to + at],
+            ));
+        }
+        if slip == Slip::LastFirst {
+            list[first..].reverse();
+        }
     }
 
     /// The children of a placed term as nodes, made once.
@@ -161,62 +247,86 @@ impl Unifier {
         first
     }
 
-    /// No class lies inside itself. Every circle passes through a variable.
-    fn occurs_check(&mut self) -> bool {
-        self.measure = vec![Measure::Unknown; self.parent.len()];
-        (0..self.variables).all(|variable| self.measure_class(variable).is_some())
-    }
-
-    /// Words of a class, up to `TOO_MANY`; none if it contains itself.
-    fn measure_class(&mut self, node: usize) -> Option<usize> {
+    /// Whether the variable is in the node's term. Each class is looked at once in a walk.
+    fn contains(&mut self, node: usize, variable: usize) -> bool {
         let class = self.class_of(node);
-        match self.measure[class] {
-            Measure::Words(words) => return Some(words),
-            Measure::UnderWay => return None,
-            Measure::Unknown => self.measure[class] = Measure::UnderWay,
+        if class == variable {
+            return true;
         }
-        let words = match self.placed(class).cloned() {
-            None => 1,
-            Some(placed) => self.measure_placed(&placed)?,
+        if self.seen[class] == self.walk {
+            return false;
+        }
+        self.seen[class] = self.walk;
+        let Some(placed) = self.placed(class).cloned() else {
+            return false;
         };
-        self.measure[class] = Measure::Words(words);
-        Some(words)
+        match placed.children {
+            None => self.plain_contains(&placed.applied, placed.shift, variable),
+            Some(first) => {
+                let mut children = first..first + placed.applied.arguments.len();
+                children.any(|at| self.contains(self.children[at], variable))
+            }
+        }
     }
 
     /// Children that were never laid out are walked as plain terms.
-    fn measure_placed(&mut self, placed: &Placed) -> Option<usize> {
-        let Some(first) = placed.children else {
-            return self.measure_plain(&placed.applied, placed.shift);
-        };
-        let mut words = 1;
-        for at in 0..placed.applied.arguments.len() {
-            words += self.measure_class(self.children[first + at])?;
-        }
-        Some(words.min(TOO_MANY))
+    fn plain_contains(&mut self, applied: &Applied, shift: usize, variable: usize) -> bool {
+        let mut arguments = applied.arguments.iter();
+        !applied.ground
+            && arguments.any(|argument| match argument {
+                Term::Variable(number) => self.contains(number + shift, variable),
+                Term::Applied(inner) => self.plain_contains(inner, shift, variable),
+            })
     }
 
-    fn measure_plain(&mut self, applied: &Applied, shift: usize) -> Option<usize> {
+    /// The sizes of all variables' terms.
+    fn measure(&mut self) {
+        for variable in 0..self.variables {
+            self.size(variable);
+        }
+    }
+
+    /// Cells of the node's term written out, as the classes are. No class lies inside itself.
+    fn size(&mut self, node: usize) -> u64 {
+        let class = self.class_of(node);
+        if self.sizes[class] > 0 {
+            return self.sizes[class];
+        }
+        let size = match self.placed(class).cloned() {
+            None => 1,
+            Some(placed) => self.placed_size(&placed).min(MOST),
+        };
+        self.sizes[class] = size;
+        self.sized = true;
+        size
+    }
+
+    fn placed_size(&mut self, placed: &Placed) -> u64 {
+        let Some(first) = placed.children else {
+            return self.plain_size(&placed.applied, placed.shift);
+        };
+        let children = first..first + placed.applied.arguments.len();
+        1 + children.map(|at| self.size(self.children[at])).sum::<u64>()
+    }
+
+    fn plain_size(&mut self, applied: &Applied, shift: usize) -> u64 {
         if applied.ground {
-            return Some(applied.words.min(TOO_MANY));
+            return applied.words as u64;
         }
-        let mut words = 1;
-        for argument in &applied.arguments {
-            words += match argument {
-                Term::Variable(number) => self.measure_class(number + shift)?,
-                Term::Applied(inner) => self.measure_plain(inner, shift)?,
-            };
-        }
-        Some(words.min(TOO_MANY))
+        let arguments = applied.arguments.iter();
+        1 + arguments
+            .map(|argument| match argument {
+                Term::Variable(number) => self.size(number + shift),
+                Term::Applied(inner) => self.plain_size(inner, shift),
+            })
+            .sum::<u64>()
     }
 
     /// Words of a term of the goal or clause under the unifier.
     pub fn term_words(&self, term: &Term, shift: usize) -> usize {
         match term {
             Term::Applied(applied) => self.applied_words(applied, shift),
-            Term::Variable(number) => match self.measure[self.class(number + shift)] {
-                Measure::Words(words) => words,
-                _ => unreachable!("every variable is measured by the occurs check"),
-            },
+            Term::Variable(number) => self.sizes[self.class(number + shift)] as usize,
         }
     }
 
@@ -229,6 +339,28 @@ impl Unifier {
             .map(|term| self.term_words(term, shift))
             .sum::<usize>()
     }
+}
+
+/// The equations taken between two terms without variables, and whether they are equal.
+fn ground_equations(a: &Rc<Applied>, b: &Rc<Applied>) -> (u64, bool) {
+    if Rc::ptr_eq(a, b) {
+        return (a.words as u64, true);
+    }
+    let mut equations = 1;
+    if a.symbol != b.symbol {
+        return (equations, false);
+    }
+    for pair in a.arguments.iter().zip(&b.arguments) {
+        let (Term::Applied(a), Term::Applied(b)) = pair else {
+            unreachable!("terms without variables");
+        };
+        let (inside, equal) = ground_equations(a, b);
+        equations += inside;
+        if !equal {
+            return (equations, false);
+        }
+    }
+    (equations, true)
 }
 
 /// Writes terms under a unifier, variables renumbered by first appearance.

@@ -16,6 +16,7 @@ pub enum Expected {
 pub struct Ran {
     pub stop: String,
     pub steps: u32,
+    pub cost: u32,
     /// Numbers of answers, pending and parked goals.
     pub counts: [usize; 3],
     pub answers: Vec<u16>,
@@ -38,6 +39,7 @@ fn ran(outcome: &Outcome) -> Ran {
     Ran {
         stop: stop_name(outcome.stop).to_string(),
         steps: outcome.steps,
+        cost: outcome.cost,
         counts: [
             outcome.answers.len(),
             outcome.pending.len(),
@@ -96,12 +98,13 @@ pub(crate) fn parse_expected<'a>(
     let rest = field(line, "ran")?;
     let (stop, rest) = rest.split_once(' ').ok_or("ran: no numbers")?;
     let numbers_: Vec<u32> = numbers(rest)?;
-    let [steps, answers, pending, parked] = numbers_[..] else {
-        return Err(format!("ran {rest}: four numbers expected"));
+    let [steps, answers, pending, parked, cost] = numbers_[..] else {
+        return Err(format!("ran {rest}: five numbers expected"));
     };
     Ok(Expected::Ran(Ran {
         stop: stop.to_string(),
         steps,
+        cost,
         counts: [answers as usize, pending as usize, parked as usize],
         answers: numbers(field(lines.next(), "answers")?)?,
         store: numbers(field(lines.next(), "store")?)?,
@@ -136,7 +139,7 @@ pub(crate) fn print_expected(expected: &Expected) -> String {
         Expected::Refused(number) => writeln!(text, "refused {number}"),
         Expected::Ran(ran) => {
             let [answers, pending, parked] = ran.counts;
-            let counts = format!("{} {answers} {pending} {parked}", ran.steps);
+            let counts = format!("{} {answers} {pending} {parked} {}", ran.steps, ran.cost);
             let lists = line("answers", &ran.answers) + &line("store", &ran.store);
             write!(text, "ran {} {counts}\n{lists}", ran.stop)
         }

@@ -32,18 +32,18 @@ fn go(goals: &[&[u16]], numbers: Given, budget: u32) -> Result<Outcome, Refused>
     carry_on(&L, &store(goals), numbers, budget, 8_192, 8_192)
 }
 
-fn counts(outcome: &Outcome) -> (Stop, u32, usize, usize, usize) {
+fn counts(outcome: &Outcome) -> (Stop, u32, usize, usize, usize, u32) {
     let (pending, parked) = (outcome.pending.len(), outcome.parked.len());
-    let answers = outcome.answers.len();
-    (outcome.stop, outcome.steps, answers, pending, parked)
+    let (answers, cost) = (outcome.answers.len(), outcome.cost);
+    (outcome.stop, outcome.steps, answers, pending, parked, cost)
 }
 
 #[test]
 fn pending_goals_resume_and_parked_ones_remain() {
     let goals: [&[u16]; 3] = [&NOT_DRAWN_A, &NOT_DRAWN_B, &FLOUNDERED];
     let outcome = go(&goals, given(2, 1, 1), 100).expect("a run");
-    // Not drawn(a): 1, drawn(a) and its success: 2. Not drawn(b): 1, drawn(b): 1. The answer: 1.
-    assert_eq!(counts(&outcome), (Stop::Finished, 6, 1, 0, 1));
+    // Not drawn(a): 1, drawn(a) and its success: 2. Not drawn(b): 1, drawn(b): 1. The answer: 1. Each drawn takes an equation.
+    assert_eq!(counts(&outcome), (Stop::Finished, 6, 1, 0, 1, 8));
     assert_eq!(outcome.answer_list(), [3, 1, 1]);
     assert_eq!(outcome.store_start(), FLOUNDERED);
 }
@@ -54,7 +54,7 @@ fn new_parked_goals_follow_the_given_ones() {
     let deep = [4 * 4096 + 3, 1, 1];
     let goals: [&[u16]; 3] = [&pending, &deep, &FLOUNDERED];
     let outcome = go(&goals, given(1, 2, 1), 100).expect("a run");
-    assert_eq!(counts(&outcome), (Stop::Finished, 1, 0, 0, 3));
+    assert_eq!(counts(&outcome), (Stop::Finished, 1, 0, 0, 3, 1));
     let marked = [&[4096 + 5][..], &pending[1..]].concat();
     assert_eq!(
         outcome.store_start(),
@@ -65,13 +65,13 @@ fn new_parked_goals_follow_the_given_ones() {
 #[test]
 fn a_not_cut_short_is_done_again() {
     let goals: [&[u16]; 1] = [&NOT_DRAWN_A];
-    for budget in 0..3 {
+    for (budget, steps, cost) in [(0, 0, 0), (1, 1, 1), (2, 1, 1), (3, 2, 3)] {
         let outcome = go(&goals, given(1, 0, 1), budget).expect("a run");
-        assert_eq!(counts(&outcome), (Stop::Budget, budget, 0, 1, 0));
+        assert_eq!(counts(&outcome), (Stop::Budget, steps, 0, 1, 0, cost));
         assert_eq!(outcome.store_start(), NOT_DRAWN_A);
     }
-    let outcome = go(&goals, given(1, 0, 1), 3).expect("a run");
-    assert_eq!(counts(&outcome), (Stop::Finished, 3, 0, 0, 0));
+    let outcome = go(&goals, given(1, 0, 1), 4).expect("a run");
+    assert_eq!(counts(&outcome), (Stop::Finished, 3, 0, 0, 0, 4));
 }
 
 #[test]
@@ -79,24 +79,25 @@ fn no_goals_are_finished_whatever_the_store_holds() {
     for terms in [0, 1, 1_023, u64::MAX] {
         for budget in [0, 5] {
             let outcome = go(&[&[9_999, 7]], given(0, 0, terms), budget).expect("a run");
-            assert_eq!(counts(&outcome), (Stop::Finished, 0, 0, 0, 0));
+            assert_eq!(counts(&outcome), (Stop::Finished, 0, 0, 0, 0, 0));
         }
     }
 }
 
 #[test]
 fn held_are_all_given_goals() {
-    // 7 words pending and 1,013 parked; the step puts 5 and 5 words in place of the 7.
+    // 7 words pending and 1,013 parked; the step puts 5 and 5 words in place of the 7, and costs 3.
     let parked = [vec![4096 + 1_013, 1, 0], [2, 0].repeat(505)].concat();
     let lead = [7, 1, 32768, 2, 32768, 16387, 32768];
-    let tight = |words: usize| {
+    let tight = |words: usize, budget: u32| {
         let mut store = [&lead[..], &parked, &FLOUNDERED].concat();
         store.resize(words, 0);
-        counts(&carry_on(&L, &store, given(1, 2, 1), 1, 0, 8_192).expect("a run"))
+        counts(&carry_on(&L, &store, given(1, 2, 1), budget, 0, 8_192).expect("a run"))
     };
-    assert_eq!(tight(1_025), (Stop::Store, 0, 0, 1, 2));
-    assert_eq!(tight(1_027), (Stop::Store, 0, 0, 1, 2));
-    assert_eq!(tight(1_028), (Stop::Budget, 1, 0, 2, 2));
+    assert_eq!(tight(1_025, 3), (Stop::Store, 0, 0, 1, 2, 0));
+    assert_eq!(tight(1_027, 3), (Stop::Store, 0, 0, 1, 2, 0));
+    assert_eq!(tight(1_027, 2), (Stop::Budget, 0, 0, 1, 2, 0));
+    assert_eq!(tight(1_028, 3), (Stop::Budget, 1, 0, 2, 2, 3));
 }
 
 #[test]
@@ -168,7 +169,7 @@ fn loose_variables() {
     // Of goals filled in by hand a pending one is parked with mark 1, and an answer has a variable.
     let goals: [&[u16]; 2] = [&[5, 1, 32768, 16387, 32768], &[3, 1, 32768]];
     let outcome = go(&goals, given(2, 0, 1), 9).expect("a run");
-    assert_eq!(counts(&outcome), (Stop::Finished, 2, 1, 0, 1));
+    assert_eq!(counts(&outcome), (Stop::Finished, 2, 1, 0, 1, 2));
     assert_eq!(outcome.store_start(), FLOUNDERED);
     assert_eq!(outcome.answer_list(), [3, 1, 32768]);
 }
@@ -191,9 +192,9 @@ fn cut_and_continued_is_as_one_run() {
         for cut in [
             0,
             1,
-            last.steps / 3,
-            last.steps / 2,
-            last.steps.saturating_sub(1),
+            last.cost / 3,
+            last.cost / 2,
+            last.cost.saturating_sub(1),
         ] {
             let first = Case {
                 budget: cut,

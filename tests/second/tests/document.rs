@@ -23,14 +23,17 @@ fn case(deck: &[u16], query: &[u16], budget: u32) -> Case {
     }
 }
 
-/// Stop, steps, answers, pending, parked; and the marks of the parked goals.
+/// Stop, steps, answers, pending, parked, cost; and the marks of the parked goals.
 fn line(deck: &[u16], query: &[u16], budget: u32) -> (String, Vec<u16>) {
     let case = case(deck, query, budget);
     let Expected::Ran(ran) = result(&case) else {
         panic!("refused");
     };
     let [answers, pending, parked] = ran.counts;
-    let text = format!("{} {} {answers} {pending} {parked}", ran.stop, ran.steps);
+    let text = format!(
+        "{} {} {answers} {pending} {parked} {}",
+        ran.stop, ran.steps, ran.cost
+    );
     let outcome = case.run().expect("accepted");
     let marks = outcome.parked.iter().map(|goal| goal[0] / 4_096);
     (text, marks.collect())
@@ -57,26 +60,29 @@ fn deck(symbols: &[u16], clauses: &[&[u16]]) -> Vec<u16> {
 
 #[test]
 fn leads_by_budget() {
-    expect(&L, &[4, X], 100_000, "finished 8 1 0 0", &[]);
-    expect(&L, &[4, X], 8, "finished 8 1 0 0", &[]);
-    expect(&L, &[4, X], 7, "budget 7 0 1 0", &[]);
-    expect(&L, &[4, X], 4, "budget 4 0 2 0", &[]);
-    expect(&L, &[4, X], 0, "budget 0 0 1 0", &[]);
+    for budget in [13, 14, 100_000, u32::MAX] {
+        expect(&L, &[4, X], budget, "finished 8 1 0 0 13", &[]);
+    }
+    expect(&L, &[4, X], 12, "budget 7 0 1 0 12", &[]);
+    expect(&L, &[4, X], 8, "budget 4 0 2 0 8", &[]);
+    expect(&L, &[4, X], 7, "budget 3 0 2 0 6", &[]);
+    expect(&L, &[4, X], 4, "budget 1 0 1 0 2", &[]);
+    expect(&L, &[4, X], 0, "budget 0 0 1 0 0", &[]);
 }
 
 #[test]
 fn other_queries_of_deck_l() {
     refused(&L, &[16_387, X], 14);
-    expect(&L, &[2, X, 16_387, X], 100_000, "finished 7 1 0 0", &[]);
-    expect(&L, &[], 100_000, "finished 1 1 0 0", &[]);
-    expect(&L, &[3, 1], 100_000, "finished 1 0 0 0", &[]);
-    expect(&L, &[3, 0], 100_000, "finished 2 1 0 0", &[]);
+    expect(&L, &[2, X, 16_387, X], 100_000, "finished 7 1 0 0 11", &[]);
+    expect(&L, &[], 100_000, "finished 1 1 0 0 1", &[]);
+    expect(&L, &[3, 1], 100_000, "finished 1 0 0 0 2", &[]);
+    expect(&L, &[3, 0], 100_000, "finished 2 1 0 0 3", &[]);
 }
 
 #[test]
 fn p_if_not_p() {
     let deck = deck(&[256], &[&[0, 16_384]]);
-    expect(&deck, &[0], 100_000, "finished 66 0 0 1", &[2]);
+    expect(&deck, &[0], 100_000, "finished 66 0 0 1 66", &[2]);
 }
 
 #[test]
@@ -85,14 +91,14 @@ fn containment() {
     refused(&loose, &[0, X, X], 13);
     // q(x, f(x)) if e(x); e(a).
     let tight = deck(&[258, 1, 257, 0], &[&[0, X, 1, X, 2, X], &[2, 3]]);
-    expect(&tight, &[0, X, X], 100_000, "finished 1 0 0 0", &[]);
-    expect(&tight, &[0, X, Y], 100_000, "finished 3 1 0 0", &[]);
+    expect(&tight, &[0, X, X], 100_000, "finished 1 0 0 0 3", &[]);
+    expect(&tight, &[0, X, Y], 100_000, "finished 3 1 0 0 6", &[]);
 }
 
 #[test]
 fn growing_argument() {
     let deck = deck(&[257, 1, 0], &[&[0, X, 0, 1, X]]);
-    expect(&deck, &[0, 2], 100_000, "finished 1021 0 0 1", &[3]);
+    expect(&deck, &[0, 2], 100_000, "finished 1021 0 0 1 2042", &[3]);
 }
 
 #[test]
@@ -114,18 +120,18 @@ fn listed(deck: &[u16], query: &[u16]) -> String {
 
 #[test]
 fn worked_listing() {
-    assert_eq!(listed(&L, &[4, X]), "all\nfinished 8 1 0 0\ns1\n");
+    assert_eq!(listed(&L, &[4, X]), "all\nfinished 8 1 0 0 13\ns1\n");
 }
 
 #[test]
 fn other_listings() {
-    assert_eq!(listed(&L, &[]), "all\nfinished 1 1 0 0\ntrue\n");
-    assert_eq!(listed(&L, &[3, 1]), "no\nfinished 1 0 0 0\n");
+    assert_eq!(listed(&L, &[]), "all\nfinished 1 1 0 0 1\ntrue\n");
+    assert_eq!(listed(&L, &[3, 1]), "no\nfinished 1 0 0 0 2\n");
     assert_eq!(listed(&L, &[16_387, X]), "refused 14\n");
     let loose = deck(&[2, 0, 259], &[&[2, X, 0, 1, 0, Y, X, Y]]);
     assert_eq!(listed(&loose, &[2, X, Y, 32_770]), "refused 13\n");
     let deck = deck(&[2, 0, 259], &[&[2, 1, 0, 1, 0, 1, 1, 1]]);
-    let text = "all\nfinished 2 1 0 0\ns1 s0(s1,s0(s1,s1)) s1\n";
+    let text = "all\nfinished 2 1 0 0 5\ns1 s0(s1,s0(s1,s1)) s1\n";
     assert_eq!(listed(&deck, &[2, X, Y, 32_770]), text);
 }
 

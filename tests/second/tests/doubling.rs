@@ -65,36 +65,49 @@ fn twins(more: [(Vec<u16>, Vec<u16>); 2]) -> Vec<u16> {
     equal(&links)
 }
 
+/// The two steps, the first argument, 39 places in the lists, 36 pairs, the doubled terms cell by cell, one of the last links.
+const TWINS: u32 = 2 + 1 + 39 + 36 + ((1 << 19) - 1) + 1;
+
 #[test]
 fn twins_agree() {
     let body = twins([(vec![X + 18], vec![A]), (vec![X + 68], vec![A])]);
-    let outcome = run(&world(body), 100);
+    let outcome = run(&world(body), 1_000_000);
     // They match, and what is derived is too long.
     assert_eq!((outcome.steps, outcome.answers.len()), (2, 0));
+    assert_eq!(outcome.cost, TWINS + 2);
     assert_eq!(outcome.parked[0][0] / 4_096, 3);
 }
 
 #[test]
 fn twins_clash() {
     let body = twins([(vec![X + 18], vec![A]), (vec![X + 68], vec![B])]);
-    let outcome = run(&world(body), 100);
+    let outcome = run(&world(body), 1_000_000);
     assert_eq!((outcome.steps, outcome.answers.len()), (2, 0));
     assert!(outcome.parked.is_empty());
+    assert_eq!(outcome.cost, TWINS + 1);
 }
 
 #[test]
 fn twins_inside_each_other() {
     let body = twins([(vec![A], vec![A]), (vec![X + 18], vec![G, X + 50])]);
-    let outcome = run(&world(body), 100);
+    let outcome = run(&world(body), 1_000_000);
     assert_eq!((outcome.steps, outcome.answers.len()), (2, 0));
     assert!(outcome.parked.is_empty());
+    assert_eq!(outcome.cost, TWINS + 1);
 }
 
 #[test]
 fn sizes_of_a_chain() {
     // Variable k of a chain of n has 2^(n+1-k) - 1 words, and a list of all of them is of 1,024 words with 8.
     for (length, words) in [(1, 8), (7, 512), (8, 1_024), (9, 0), (40, 0)] {
-        let outcome = run(&world(equal(&chain(0, length))), 2);
+        // The start; then the first argument, two equations a link, and the lists' ends.
+        let cost = 1 + 1 + 1 + 2 * length as u32 + 1;
+        let outcome = run(&world(equal(&chain(0, length))), cost);
+        assert_eq!(
+            (outcome.steps, outcome.cost),
+            (2, cost),
+            "a chain of {length}"
+        );
         let derived = outcome.pending.first().map_or(0, Vec::len);
         assert_eq!(derived, words, "a chain of {length}");
         assert_eq!(
@@ -110,8 +123,8 @@ fn chain_of_eighty_in_a_query() {
     let mut world = world(vec![]);
     world.query = equal(&chain(0, 80));
     renumber(&mut world.query);
-    let outcome = run(&world, 100);
-    assert_eq!(outcome.parked.len(), 1);
+    let outcome = run(&world, 163);
+    assert_eq!((outcome.parked.len(), outcome.cost), (1, 163));
     assert_eq!(outcome.parked[0][0] / 4_096, 3);
 }
 
@@ -123,5 +136,6 @@ fn a_goal_as_deep_as_it_can_be() {
     world.query = vec![SHOW, X];
     let outcome = run(&world, 100_000);
     assert_eq!((outcome.steps, outcome.parked.len()), (1_020, 1));
+    assert_eq!(outcome.cost, 2 * 1_020);
     assert_eq!(outcome.parked[0].len(), 1_024);
 }

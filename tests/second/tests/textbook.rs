@@ -1,5 +1,6 @@
 //! Single steps held against matching written as the document words it:
-//! equations from the front of a list, the term put in everywhere.
+//! equations from the front of a list, the term put in everywhere. Those
+//! taken are counted, the failing one included.
 
 use second::random::Dice;
 use second::world::{renumber, World};
@@ -52,16 +53,18 @@ fn put(term: &Term, variable: usize, value: &Term) -> Term {
     }
 }
 
-/// The goal with the unifier put in, or none.
-fn matched(equations: Equations, goal: Vec<Term>) -> Option<Vec<Term>> {
+/// The goal with the unifier put in, or none; and the equations taken.
+fn matched(equations: Equations, goal: Vec<Term>) -> (Option<Vec<Term>>, u32) {
     let mut equations = equations;
     let mut goal = goal;
+    let mut taken = 0;
     while !equations.is_empty() {
+        taken += 1;
         match equations.remove(0) {
             (Term::Variable(a), Term::Variable(b)) if a == b => {}
             (Term::Variable(a), term) | (term, Term::Variable(a)) => {
                 if contains(&term, a) {
-                    return None;
+                    return (None, taken);
                 }
                 for (left, right) in equations.iter_mut() {
                     *left = put(left, a, &term);
@@ -71,13 +74,13 @@ fn matched(equations: Equations, goal: Vec<Term>) -> Option<Vec<Term>> {
             }
             (Term::Symbol(a, ones), Term::Symbol(b, others)) => {
                 if a != b || ones.len() != others.len() {
-                    return None;
+                    return (None, taken);
                 }
                 equations.splice(0..0, ones.into_iter().zip(others));
             }
         }
     }
-    Some(goal)
+    (Some(goal), taken)
 }
 
 fn write(term: &Term, out: &mut Vec<u16>) {
@@ -90,21 +93,25 @@ fn write(term: &Term, out: &mut Vec<u16>) {
     }
 }
 
-/// The goals after one step on a query whose first literal is positive.
-fn derived(world: &World) -> Vec<Vec<u16>> {
+/// The goals after one step on a query whose first literal is positive, and what the step costs.
+fn derived(world: &World) -> (Vec<Vec<u16>>, u32) {
     let literals = read_all(world, &world.query, 0);
     let variables = world.query.iter().filter(|cell| **cell >= X).max();
     let variables = variables.map_or(0, |cell| (*cell - X) as usize + 1);
     let mut goals = Vec::new();
+    let mut cost = 1;
     for clause in &world.clauses {
         let clause = read_all(world, clause, variables);
         let mut goal: Vec<Term> = (0..variables).map(Term::Variable).collect();
         goal.extend(literals[1..].iter().cloned());
         goal.extend(clause[1..].iter().cloned());
         let equations = vec![(literals[0].clone(), clause[0].clone())];
-        goals.extend(matched(equations, goal).map(|goal| goal_words(&goal, variables)));
+        let (goal, taken) = matched(equations, goal);
+        goals.extend(goal.map(|goal| goal_words(&goal, variables)));
+        // The literal and the head themselves are no equation.
+        cost += taken - 1;
     }
-    goals
+    (goals, cost)
 }
 
 fn goal_words(goal: &[Term], variables: usize) -> Vec<u16> {
@@ -166,9 +173,15 @@ fn single_steps_agree() {
             clauses: (0..3).map(|more| literals(&mut dice, more)).collect(),
             query: literals(&mut dice, 1),
         };
-        let outcome = second::run(&world.deck(), &world.query, 1, 0, 65_535, 8_192);
-        let outcome = outcome.expect("a sound case");
-        let expected = derived(&world);
+        let (expected, cost) = derived(&world);
+        let run = |budget| {
+            let outcome = second::run(&world.deck(), &world.query, budget, 0, 65_535, 8_192);
+            outcome.expect("a sound case")
+        };
+        let outcome = run(cost);
+        assert_eq!((outcome.steps, outcome.cost), (1, cost), "seed {seed}");
+        let short = run(cost - 1);
+        assert_eq!((short.steps, short.cost), (0, 0), "seed {seed}");
         if expected.iter().all(|goal| goal.len() <= 1_024) {
             assert_eq!(outcome.pending, expected, "seed {seed}");
             matches += expected.len();

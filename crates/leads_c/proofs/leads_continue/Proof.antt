@@ -6,7 +6,7 @@ use Rattle.leads_c.proofs.leads_continue.Tie as tie
 
 returns : tie.Need-returns
 returns c =
-    let ran = c .before .before .before .before .before .before .before .before .before .before .before .before .carry-on in
+    let ran = c .before .before .before .before .before .before .before .before .before .before .before .before .before .carry-on in
     record { result = resultOf (ran .result); gives = ran .ensures; tells = c .told .ensures }
 
 pub leads-continue-spec : {M : Type 1} → statement M

@@ -6,7 +6,7 @@ use Rattle.leads_c.proofs.leads_run.Tie as tie
 
 returns : tie.Need-returns
 returns c =
-    let ran = c .before .before .before .before .before .before .before .before .before .before .before .before .run in
+    let ran = c .before .before .before .before .before .before .before .before .before .before .before .before .before .run in
     record { result = resultOf (ran .result); gives = ran .ensures; tells = c .told .ensures }
 
 pub leads-run-spec : {M : Type 1} → statement M

@@ -1,4 +1,4 @@
--- The first two lines, and then the answers: at most 58 bytes, and 8 for each word of the answer list.
+-- The first two lines, and then the answers: at most 69 bytes, and 8 for each word of the answer list.
 use borrow.Author.Needs.{needs}
 use Prim.Native.Nat.{_*_, _≤_}
 use native.Mathlib.Omega.{arith}

@@ -52,10 +52,10 @@ returns-2 : tie.Need-returns-2
 returns-2 c =
     let k = c .before .before .before .before in
     let t = k .before .before .before in
-    λ s h. let w = waits t s h in (omega (arith, w .later), goes-parked w _ _ (k .park .ensures) (k .park .kept .0))
+    λ s h. let w = waits t s h in (w .less, goes-parked w _ _ (k .park .ensures) (k .park .kept .0))
 
 returns-3 : tie.Need-returns-3
-returns-3 c = λ s h. let u = rw (c .before .taken2 .given .1) at h in (omega (arith, u .0), u .1)
+returns-3 c = λ s h. rw (c .before .taken2 .given .1) at h
 
 returns-4 : tie.Need-returns-4
 returns-4 c = λ s h. rw (c .before .taken3 .given .1) at h

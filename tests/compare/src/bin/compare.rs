@@ -1,13 +1,13 @@
 //! `compare [cases] [first seed]`: document 01's runs and the vectors, then random cases. A difference ends it, with the case made small.
 
 use compare::Leads;
-use second::judge::judge;
+use second::judge::{judge, Engine, Lent, Report};
 use second::random::case;
 use second::shrink::shrink;
 use second::vectors::{parse, print, result};
 use second::world::World;
 use second::Case;
-use std::time::Instant;
+use std::time::{Duration, Instant};
 
 fn main() {
     let mut arguments = std::env::args().skip(1);
@@ -74,6 +74,7 @@ fn deepest() {
         hold(&Case { budget: 1_000, ..roomy("a chain of variables", &deck, numbered) });
     }
     doubled();
+    vast();
 }
 
 /// p(x1, .., xn) against p(f(y1, y1), .., f(yn, yn)) if t(y1), .., t(yn), and with each x tied to the next.
@@ -90,6 +91,35 @@ fn doubled() {
         let next = (0..n).flat_map(|k| if k == 0 { vec![32768] } else { vec![f, 32768 + k - 1, 32768 + k] });
         hold(&roomy("doubled and tied", &deck, renumbered([p].into_iter().chain(next).collect())));
     }
+}
+
+/// A term doubled 60 times and set equal to itself: e(list, list) against e(x, x) if t(x). With any budget that a hut laptop has the call returns at once.
+fn vast() {
+    let (a, f, g, e, t, x) = (0, 1, 2, 3, 4, 32768);
+    let world = World { symbols: vec![0, 2, 2, 258, 257], clauses: vec![vec![e, x, x, t, x]], query: Vec::new() };
+    let deck = world.deck();
+    for times in [1, 2, 3, 9, 14, 15, 16, 30, 60, 75] {
+        let left = (0..times).chain([0]).flat_map(|at| [g, x + at]).chain([a]);
+        let right = (0..times).flat_map(|at| [g, f, x + at + 1, x + at + 1]).chain([g, x, a]);
+        let query = renumbered([e].into_iter().chain(left).chain(right).collect());
+        for budget in [0, 1, 2, 10, 65_568, 65_569, 65_570, 100_000] {
+            let case = Case { budget, ..roomy("vast", &deck, query.clone()) };
+            let time = (0..3).map(|_| timed(&case)).min().expect("three");
+            assert!(time < MOST_TIME, "{times} doublings with a budget of {budget} took {time:.1?}");
+            hold(&case);
+        }
+    }
+}
+
+/// What a call takes that walks 100,000 equations at most.
+const MOST_TIME: Duration = Duration::from_millis(400);
+
+fn timed(case: &Case) -> Duration {
+    let (mut answers, mut store, mut scratch) = (vec![0; case.answer_words], vec![0; case.store_words], vec![0; case.scratch_words]);
+    let lent = Lent { answers: &mut answers, store: &mut store, scratch: &mut scratch };
+    let start = Instant::now();
+    Leads.run(&case.deck, &case.query, case.budget, lent, &mut Report::default());
+    start.elapsed()
 }
 
 /// The query with its variables numbered by first appearance.

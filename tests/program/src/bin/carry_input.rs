@@ -64,7 +64,7 @@ impl Judge {
     fn kept(&mut self, seeds: u64) -> io::Result<()> {
         let program = self.program("leads_open")?;
         let mut asked = vec![("deck L".to_string(), bytes(&L), bytes(&[4, 32_768]), None)];
-        asked.extend((0..10).map(|budget| ("deck L".to_string(), bytes(&L), bytes(&[4, 32_768]), Some(budget))));
+        asked.extend((0..16).map(|budget| ("deck L".to_string(), bytes(&L), bytes(&[4, 32_768]), Some(budget))));
         for budget in [99_999, 100_000, 100_001, u32::MAX] {
             asked.push(("deck L".to_string(), bytes(&L), bytes(&[4, 32_768]), Some(budget)));
         }
@@ -120,7 +120,7 @@ impl Judge {
     fn damaged(&mut self) -> io::Result<()> {
         let program = self.program("carry_on")?;
         let deck = bytes(&L);
-        let (text, left) = open_program(Some(&deck), &bytes(&[4, 32_768]), 4);
+        let (text, left) = open_program(Some(&deck), &bytes(&[4, 32_768]), 8);
         let goals = left.expect("goals are left");
         assert!(text.starts_with(b"open"), "a run cut short");
         program.clear()?;

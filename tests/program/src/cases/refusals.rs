@@ -20,14 +20,14 @@ pub fn by_bytes() -> Vec<Case> {
         given("a deck of 57 bytes", &l[..57], &leads, "refused 1\n"),
         given("a deck of 59 bytes", &more(&l, 1), &leads, "refused 1\n"),
         given("a deck, high byte first", &turned, &leads, "refused 1\n"),
-        given("a deck of 32,768 bytes", &largest, &[], "all\nfinished 1 1 0 0\ntrue\n"),
+        given("a deck of 32,768 bytes", &largest, &[], "all\nfinished 1 1 0 0 1\ntrue\n"),
         given("a deck of 32,769 bytes", &more(&largest, 1), &[], "refused 1\n"),
         given("a deck of 32,770 bytes", &more(&largest, 2), &[], "refused 1\n"),
         given("a bad deck, a query of 1,002 bytes", &bad_symbol, &[0; 1_002], "refused 2\n"),
         given("a bad deck, a query of 1 byte", &bad_symbol, &[0], "refused 2\n"),
         given("a query of 1 byte", &fact, &[0], "refused 7\n"),
         given("a query of 999 bytes", &fact, &[0; 999], "refused 7\n"),
-        given("a query of 1,000 bytes", &fact, &[0; 1_000], "all\nfinished 501 1 0 0\ntrue\n"),
+        given("a query of 1,000 bytes", &fact, &[0; 1_000], "all\nfinished 501 1 0 0 501\ntrue\n"),
         given("a query of 1,001 bytes", &fact, &[0; 1_001], "refused 6\n"),
         given("a query of 1,002 bytes", &fact, &[0; 1_002], "refused 6\n"),
         given("a query, high byte first", &l, &[0, 4, 128, 0], "refused 7\n"),
@@ -69,7 +69,7 @@ fn clause(cells: &[u16]) -> Vec<u16> {
 /// Loose variables, in a clause and in the query.
 pub fn loose() -> Vec<Case> {
     let in_clause = |name: &str, cells: &[u16]| case(name, &clause(cells), &[4], "refused 13\n");
-    let held = |name: &str, cells: &[u16]| case(name, &clause(cells), &[4], "all\nfinished 2 1 0 0\ntrue\n");
+    let held = |name: &str, cells: &[u16]| case(name, &clause(cells), &[4], "all\nfinished 2 1 0 0 2\ntrue\n");
     let asked = |name: &str, query: &[u16], start| case(name, &clause(&[4]), query, start);
     let cyclic = deck(&[258, 1], &[&[0, X, 1, X]]);
     let clark = deck(&[257, 257, 257, 1, 1, 0], &[&[0, X, 1, Y, 2, Y], &[1, 3, X, 1, X], &[2, 4, X]]);
@@ -95,8 +95,8 @@ pub fn loose() -> Vec<Case> {
         asked("a query of a not", &[NOT + 2, X], "refused 14\n"),
         asked("the last of three loose", &[3, X, Y, NOT + 2, 1, Z], "refused 14\n"),
         asked("the first of two loose in a query", &[NOT + 3, X, Y, 2, Y], "refused 14\n"),
-        asked("a not before what holds it", &[NOT + 2, 1, X, 2, X], "all\nfinished 4 1 0 0\ns0\n"),
-        asked("held inside a term of the query", &[NOT + 3, X, 0, 2, 1, X], "no\nfinished 1 0 0 0\n"),
+        asked("a not before what holds it", &[NOT + 2, 1, X, 2, X], "all\nfinished 4 1 0 0 6\ns0\n"),
+        asked("held inside a term of the query", &[NOT + 3, X, 0, 2, 1, X], "no\nfinished 1 0 0 0 2\n"),
     ]
 }
 

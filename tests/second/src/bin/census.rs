@@ -11,6 +11,7 @@ use std::time::{Duration, Instant};
 struct Census {
     counts: BTreeMap<String, usize>,
     steps: u64,
+    cost: u64,
     slowest: Option<(Duration, String)>,
 }
 
@@ -30,7 +31,10 @@ fn main() {
     for (what, count) in &census.counts {
         println!("{count:8}  {what}");
     }
-    println!("{cases} cases, {} steps, {spent:.1?}", census.steps);
+    println!(
+        "{cases} cases, {} steps of cost {}, {spent:.1?}",
+        census.steps, census.cost
+    );
     if let Some((time, name)) = &census.slowest {
         println!("slowest: {name}, {time:.1?}");
     }
@@ -58,6 +62,7 @@ impl Census {
 
     fn add_run(&mut self, case: &Case, outcome: &Outcome) {
         self.steps += outcome.steps as u64;
+        self.cost += outcome.cost as u64;
         self.count(format!("stop {:?}", outcome.stop));
         if outcome.stop == Stop::Store {
             let sizes = ["1024", "1025-4096", "4097-16384", "16385-65535"];
@@ -124,8 +129,27 @@ impl Census {
         if case.answer_words > 0 && outcome.answer_list().len() == case.answer_words {
             self.count("brink: answer list just full".into());
         }
-        if outcome.stop == Stop::Finished && outcome.steps == case.budget {
+        if outcome.stop == Stop::Finished && outcome.cost == case.budget {
             self.count("brink: budget just enough".into());
+        }
+        let more = |budget: u32| {
+            let case = Case {
+                budget,
+                ..case.clone()
+            };
+            case.run().expect("accepted as before").steps > outcome.steps
+        };
+        if outcome.stop == Stop::Budget && watch.left > 0 {
+            self.count("brink: budget left".into());
+            if more(case.budget + 1) {
+                self.count("brink: budget one short".into());
+            }
+        }
+        if watch.unpaid.get() {
+            self.count("brink: an oversized goal not paid".into());
+        }
+        if case.budget == u32::MAX {
+            self.count("brink: the greatest budget".into());
         }
     }
 }

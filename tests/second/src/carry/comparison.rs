@@ -120,7 +120,7 @@ impl<'a> Comparison<'a> {
     /// Small decks with goals: every word and every number otherwise.
     pub fn damaged(&mut self) -> Result<(), String> {
         for shape in shapes() {
-            let case = shape.case(50, 1_024);
+            let case = shape.case(150, 1_024);
             self.hold(&case)?;
             for other in everywhere(&case, shape.world.symbols.len() as u16) {
                 self.hold(&other)?;

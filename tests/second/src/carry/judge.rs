@@ -1,7 +1,7 @@
 //! Another engine's continued runs held against this evaluator, case by case.
 
 use super::{carry_on, CarryCase, Fault, Given, Refused};
-use crate::evaluation::Outcome;
+use crate::evaluation::{Outcome, Stop};
 use crate::guarded::Guarded;
 use crate::judge::{put, report_of, same, Left, Lent, Report};
 use std::hint::black_box;
@@ -42,7 +42,7 @@ impl Engine for crate::judge::Second {
 }
 
 /// What some case must come to.
-pub const WANTED: [&str; 40] = [
+pub const WANTED: [&str; 44] = [
     "finished",
     "budget",
     "answers",
@@ -54,6 +54,10 @@ pub const WANTED: [&str; 40] = [
     "a goal of 1,024 words",
     "goals fill the store",
     "an inner level cut short",
+    "a step not paid, budget left",
+    "an inner step not paid, budget left",
+    "an oversized goal not paid",
+    "the greatest budget",
     "a fifth continuation",
     "parked anew, floundered",
     "parked anew, undecided",
@@ -89,6 +93,7 @@ pub const WANTED: [&str; 40] = [
 const UNSET: Report = Report {
     stop: 0x5a5a,
     steps: 0x5a5b,
+    cost: 0x5a5f,
     answers: 0x5a5c,
     pending: 0x5a5d,
     parked: 0x5a5e,
@@ -178,7 +183,15 @@ fn ran_labels(case: &CarryCase, outcome: &Outcome) -> Vec<&'static str> {
     let stops = ["finished", "budget", "answers", "store"];
     let (given, watch) = (case.given, &outcome.watch);
     let lengths = case.lengths();
+    let unpaid = outcome.stop == Stop::Budget && watch.left > 0;
     let more = [
+        (unpaid, "a step not paid, budget left"),
+        (
+            unpaid && watch.cut > 0,
+            "an inner step not paid, budget left",
+        ),
+        (watch.unpaid.get(), "an oversized goal not paid"),
+        (case.budget == u32::MAX, "the greatest budget"),
         (lengths.is_empty(), "no goals"),
         (case.budget == 0 && given.pending > 0, "budget 0"),
         (given.pending == 0 && given.parked > 0, "only parked goals"),

@@ -1,6 +1,7 @@
 //! This evaluator with a slip put into its checks of loose variables, to see that the comparison finds it.
 
 use super::{both, deck as deck_check, loose, query as query_check, refused_unless, Checks};
+use crate::cost;
 use crate::deck::{Clause, Deck};
 use crate::evaluation::Limits;
 use crate::judge::{put, report_of, Engine, Lent, Report};
@@ -65,7 +66,8 @@ impl Engine for Slip {
             answer_words: lent.answers.len(),
             store_words: lent.store.len(),
         };
-        let ran = crate::run_checked(deck, query, limits, lent.scratch.len(), checks);
+        let scratch_words = lent.scratch.len();
+        let ran = crate::run_with(deck, query, limits, scratch_words, checks, cost::Slip::None);
         match ran {
             Ok(outcome) => {
                 *report = report_of(&outcome);

@@ -5,6 +5,7 @@ mod limits;
 mod shapes;
 
 use super::dice::Dice;
+use super::sizes::near_a_step;
 use super::texts::small_world;
 use super::tight::{self, Ways};
 use crate::carry::{CarryCase, Given};
@@ -162,14 +163,14 @@ pub fn fill(dice: &mut Dice, store: &mut Vec<u16>, length: usize) {
 }
 
 pub fn budget(dice: &mut Dice) -> u32 {
-    let steps = match dice.weighted(&[3, 5, 6, 4, 2]) {
-        0 => dice.range(0, 1),
-        1 => dice.range(2, 8),
-        2 => dice.range(9, 60),
-        3 => dice.range(61, 400),
-        _ => dice.range(401, 2_000),
+    let cost = match dice.weighted(&[3, 5, 6, 4, 2]) {
+        0 => dice.range(0, 2),
+        1 => dice.range(3, 20),
+        2 => dice.range(21, 200),
+        3 => dice.range(201, 1_500),
+        _ => dice.range(1_501, 8_000),
     };
-    steps as u32
+    cost as u32
 }
 
 pub fn answer_words(dice: &mut Dice) -> usize {
@@ -204,7 +205,7 @@ fn tighten(dice: &mut Dice, case: &mut CarryCase) {
     };
     let one_off = |dice: &mut Dice, number: usize| (number + dice.below(3)).saturating_sub(1);
     match dice.below(3) {
-        0 => case.budget = one_off(dice, outcome.steps as usize) as u32,
+        0 => case.budget = near_a_step(dice, &outcome),
         1 => {
             let count = dice.range(0, outcome.answers.len());
             let words = outcome.answers[..count].iter().map(Vec::len).sum();

@@ -115,6 +115,13 @@ pub fn large(dice: &mut Dice) -> World {
     world(signature, clauses, query)
 }
 
+/// Some 20 steps over all of the facts.
+pub fn large_sizes(dice: &mut Dice, case: &mut Case) {
+    if dice.chance(2, 3) {
+        case.budget = dice.below(40_000) as u32;
+    }
+}
+
 /// Long clauses up to 16,384 words in all, or near it.
 fn pad_deck(dice: &mut Dice, signature: &Signature, clauses: &mut Vec<Vec<u16>>, pad: u16) {
     let cells: usize = clauses.iter().map(Vec::len).sum();
@@ -157,6 +164,6 @@ pub fn rich_sizes(dice: &mut Dice, case: &mut Case) {
     case.answer_words = *dice.pick(&sizes);
     case.store_words = case.store_words.max(16_384);
     if dice.chance(3, 4) {
-        case.budget = 2_000;
+        case.budget = 6_000;
     }
 }

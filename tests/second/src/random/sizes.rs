@@ -2,15 +2,15 @@
 
 use super::dice::Dice;
 use crate::case::Case;
-use crate::evaluation::Outcome;
+use crate::evaluation::{Outcome, Stop};
 use crate::world::World;
 
-pub fn sized(dice: &mut Dice, world: &World, most_steps: u32) -> Case {
+pub fn sized(dice: &mut Dice, world: &World, most_cost: u32) -> Case {
     let mut case = Case {
         name: String::new(),
         deck: world.deck(),
         query: world.query.clone(),
-        budget: budget(dice).min(most_steps),
+        budget: budget(dice).min(most_cost),
         answer_words: answer_words(dice),
         store_words: store_words(dice),
         scratch_words: scratch_words(dice),
@@ -22,14 +22,14 @@ pub fn sized(dice: &mut Dice, world: &World, most_steps: u32) -> Case {
 }
 
 fn budget(dice: &mut Dice) -> u32 {
-    let steps = match dice.weighted(&[8, 22, 34, 28, 8]) {
-        0 => dice.range(0, 3),
-        1 => dice.range(4, 30),
-        2 => dice.range(31, 300),
-        3 => dice.range(301, 1_200),
-        _ => dice.range(1_201, 3_000),
+    let cost = match dice.weighted(&[8, 22, 34, 28, 8]) {
+        0 => dice.range(0, 5),
+        1 => dice.range(6, 80),
+        2 => dice.range(81, 900),
+        3 => dice.range(901, 4_000),
+        _ => dice.range(4_001, 12_000),
     };
-    steps as u32
+    cost as u32
 }
 
 fn answer_words(dice: &mut Dice) -> usize {
@@ -70,7 +70,7 @@ fn tighten(dice: &mut Dice, case: &mut Case) {
         return;
     };
     match dice.below(3) {
-        0 => case.budget = one_off(dice, outcome.steps as usize) as u32,
+        0 => case.budget = near_a_step(dice, &outcome),
         1 => {
             let words = some_answers(dice, &outcome);
             case.answer_words = one_off(dice, words);
@@ -82,6 +82,28 @@ fn tighten(dice: &mut Dice, case: &mut Case) {
             case.answer_words = 8_192;
         }
     }
+}
+
+/// A budget with which a step is just paid, is one short, or is broken off somewhere inside; or the greatest, where the run ends by itself.
+pub fn near_a_step(dice: &mut Dice, outcome: &Outcome) -> u32 {
+    if outcome.stop == Stop::Finished && dice.chance(1, 8) {
+        return u32::MAX - dice.below(3) as u32;
+    }
+    let costs = &outcome.watch.costs;
+    let dearest = (0..costs.len()).max_by_key(|at| costs[*at]);
+    let at = match dearest {
+        Some(at) if dice.chance(1, 3) => at,
+        _ => dice.range(0, costs.len()),
+    };
+    let cost = costs.get(at).copied().unwrap_or(1);
+    let part = match dice.below(5) {
+        0 => 0,
+        1 => cost,
+        2 => cost - 1,
+        3 => cost + 1,
+        _ => dice.below(cost as usize) as u64,
+    };
+    (costs[..at].iter().sum::<u64>() + part) as u32
 }
 
 fn one_off(dice: &mut Dice, number: usize) -> usize {

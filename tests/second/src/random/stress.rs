@@ -305,6 +305,28 @@ pub fn twins(dice: &mut Dice) -> World {
     twin_world(dice, d, &links, leaf)
 }
 
+/// A term doubled up to 75 times, set equal to itself: all of it is walked.
+pub fn vast(dice: &mut Dice) -> World {
+    let d = doubler();
+    let most = *dice.pick(&[4, 9, 14, 75]);
+    let length = dice.range(1, most);
+    let mut links = d.chain(0, length);
+    let leaf = variable(length);
+    if dice.chance(1, 3) {
+        links.push((vec![leaf], vec![d.a]));
+    }
+    links.push((vec![variable(0)], vec![variable(0)]));
+    if dice.chance(1, 4) {
+        links.push((vec![d.a], vec![d.b]));
+    }
+    if length <= 20 {
+        return twin_world(dice, d, &links, leaf);
+    }
+    let query = [vec![d.equal], d.two_lists(&links)].concat();
+    let x = variable(0);
+    world(d.signature, vec![vec![d.equal, x, x]], query)
+}
+
 /// The links in a query, in a body or in a head.
 fn twin_world(dice: &mut Dice, d: Doubler, links: &Links, leaf: u16) -> World {
     let lists = d.two_lists(links);

@@ -23,7 +23,7 @@ put-listing-requires c κs =
     let a = c .before .before .before .before .before .before .before .args in
     let p = c .before .before .before .before .before .before .before .pre .1 .1 in
     let few = c .before .before .before .before .before .before .before .pre .0 .0 in
-    let s : length (a .out .now) ≡ 65594 = search needs in
+    let s : length (a .out .now) ≡ 65605 = search needs in
     ((omega (arith, few), omega (arith, few, s)), (p .outcome, rw (c .before .symbols .ensures) (p .shown)))
 
 put-goals-requires : tie.Need-put-goals-requires
@@ -38,7 +38,7 @@ returns c =
     λ k h.
     let n = counts-of (h .outcome) _ _ _ (h .shown) in
     let few = c .before .before .before .before .before .before .before .before .before .before .pre .0 .0 in
-    let s : length (a .out .now) ≡ 65594 = search needs in
+    let s : length (a .out .now) ≡ 65605 = search needs in
     kept-both k (record { outcome = h .outcome; terms = a .terms }) (h .comes) (c .before .before .put-listing .ensures .0 (h .outcome) (rw (c .before .before .before .before .symbols .ensures) (h .shown)))
     (omega (arith, c .before .before .put-listing .ensures .1, few, s)) (c .put-goals .ensures (h .outcome) (n .0, n .1, h .left))
 

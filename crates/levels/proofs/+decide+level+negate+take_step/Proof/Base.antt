@@ -8,6 +8,7 @@ use Rattle.rules.specs.Refusals.{accepted}
 use Rattle.rules.specs.Decks.{openDeck}
 use Rattle.resolvents.specs.Deriving.{Rows}
 use Rattle.goals.specs.Store.{Holding}
+use Rattle.levels.specs.Levels.{Later}
 use Rattle.levels.proofs.GoingLaws.{Goes}
 use borrow.Fn.Kinds.{In}
 use borrow.Fn.PlainCycle.{Measures, is, falls, and}
@@ -28,6 +29,7 @@ use Rattle.derivation.proofs.derive.Reads as derive-reads
 use Rattle.goals.proofs.ask.Reads as ask-reads
 use Rattle.levels.proofs.expanded.Reads as expanded-reads
 use Rattle.levels.proofs.finished.Reads as finished-reads
+use Rattle.levels.proofs.pay_one.Reads as pay-one-reads
 use Rattle.levels.proofs.settle.Reads as settle-reads
 use Rattle.words.proofs.wide.Reads as wide-reads
 use Rattle.resolvents.proofs.select.select_literal.Reads as select-literal-reads
@@ -74,10 +76,10 @@ abbrev pub decide-E : ℕ → decide-lts.Claims
 decide-E t = (ask-reads.Asked, ask-reads.Learnt, level-below t, level.Post)
 
 abbrev pub level-E : ℕ → level-lts.Claims
-level-E t = (take-step-below t, take-step.Post, wide-reads.Asked, wide-reads.Learnt, finished-reads.Asked, finished-reads.Learnt)
+level-E t = (take-step-below t, take-step.Post, pay-one-reads.Asked, pay-one-reads.Learnt, wide-reads.Asked, wide-reads.Learnt, finished-reads.Asked, finished-reads.Learnt)
 
 abbrev pub negate-E : ℕ → negate-lts.Claims
-negate-E t = (decide-below t, decide.Post, settle-reads.Asked, settle-reads.Learnt)
+negate-E t = (pay-one-reads.Asked, pay-one-reads.Learnt, decide-below t, decide.Post, settle-reads.Asked, settle-reads.Learnt)
 
 abbrev pub take-step-E : ℕ → take-step-lts.Claims
 take-step-E t = (
@@ -89,6 +91,8 @@ take-step-E t = (
   symbols-reads.Learnt,
   select-literal-reads.Asked,
   select-literal-reads.Learnt,
+  pay-one-reads.Asked,
+  pay-one-reads.Learnt,
   derive-reads.Asked,
   derive-reads.Learnt,
   expanded-reads.Asked,
@@ -98,11 +102,11 @@ take-step-E t = (
 )
 
 abbrev pub level-Inv-loop : level-lts.InvT-loop
-level-Inv-loop deck below store₀ start steps cells₀ table₀ draft₀ index held₀ used₀ parked₀ store cells table draft held used parked =
+level-Inv-loop deck below store₀ start cells₀ table₀ draft₀ index held₀ current₀ parked₀ store cells table draft held current parked =
     ((length store ≡ length store₀) × (length cells ≡ length cells₀) × (length table ≡ length table₀) × (length draft ≡ length draft₀))
-    × Rows table draft × (used ≤ steps .budget)
+    × Rows table draft × Later current₀ current
     × ((d : Deck) (gs : List Goal) → openDeck deck ≡ accepted d → Holding (d .symbols) store₀ start gs
-    → Goes d below (length store₀) gs (steps .budget) (steps .used) store held used parked)
+    → Goes d below (length store₀) gs current₀ store held current parked)
 
 abbrev pub level-μ-loop : level-lts.MeasureT-loop
-level-μ-loop deck below store₀ start steps cells₀ table₀ draft₀ index held₀ used₀ parked₀ store cells table draft held used parked = steps .budget - used
+level-μ-loop deck below store₀ start cells₀ table₀ draft₀ index held₀ current₀ parked₀ store cells table draft held current parked = current .left

@@ -8,10 +8,11 @@ use Rattle.rules.specs.Refusals.{accepted}
 use Rattle.rules.specs.Decks.{openDeck}
 use Rattle.goals.specs.Store.{Holding}
 use Rattle.goals.specs.declared.Mark.{Mark}
+use Rattle.levels.specs.declared.Account.{Account}
 use Rattle.levels.specs.declared.Turn.{Turn}
 use Rattle.levels.specs.declared.Turn.the-variants.{Empty, Park, More}
-use Rattle.levels.specs.Levels.{Turned}
-use Rattle.levels.proofs.GoingLaws.{goes-first, goes-finished, some-first, goes-spent, goes-succeeds, goes-interrupted, goes-parked, goes-on, parked-room, on-later}
+use Rattle.levels.specs.Levels.{Later, Turned}
+use Rattle.levels.proofs.GoingLaws.{goes-first, goes-finished, some-first, goes-spent, goes-succeeds, goes-interrupted, goes-parked, goes-on, parked-room, on-later, then-later}
 use Rattle.levels.proofs.level.Reads as level
 use Rattle.levels.proofs.+decide+level+negate+take_step.Lts-level as level-lts
 use borrow.Author.Needs.{needs}
@@ -22,12 +23,11 @@ module _ (t : ℕ) where
   pub level-loop-holds : level-lts.Need-loop-holds (level-E t) (level-at t) level.Post level-Inv-loop level-μ-loop
   level-loop-holds c =
       let start = c .before .before .before .before .before .before in
-      let a = start .args in
-      let b = start .pre .1 .1 .1 .1 in (
+      let a = start .args in (
         (refl, refl, refl, refl),
         start .pre .1 .1 .0,
-        omega (arith, b),
-        λ d gs o h. goes-first d (a .below) (a .store .now) (a .start) gs (a .steps .budget) (a .steps .used) h b,
+        (omega arith, omega arith),
+        λ d gs o h. goes-first d (a .below) (a .store .now) (a .start) gs (a .account) h,
       )
 
   pub level-returns : level-lts.Need-returns (level-E t) (level-at t) level.Post level-Inv-loop level-μ-loop
@@ -47,7 +47,7 @@ module _ (t : ℕ) where
         omega (arith, start .pre .0),
         (
           some-first (l .3 (q .deck) (q .goals) (q .opens) (q .holding)) (at-loop-test .loop-test .taken) (start .args .deck .now) (q .opens),
-          (l .1, (omega (arith, start .pre .1 .1 .1, l .0 .1), omega (arith, at-if1 .if1 .left, l .2), start .pre .1 .1 .1 .2)),
+          (l .1, (omega (arith, start .pre .1 .1 .1, l .0 .1), omega (arith, at-if1 .if1 .left), omega (arith, l .2 .1, start .pre .1 .1 .1 .1), start .pre .1 .1 .1 .2)),
         ),
       )
 
@@ -59,35 +59,35 @@ module _ (t : ℕ) where
         let l = c .before .before .before .before .before .before .before .before .loop in
         (r : Turn) → c .take-step .result ≡ r → (d : Deck) → openDeck (a .deck .now) ≡ accepted d
         → (g : Goal) (hs : List Goal) → Holding (d .symbols) (l .store) (l .held) (g ∷ hs)
-        → Turned d (a .below) (l .store) (l .held) (a .steps .budget) (l .used) g hs (c .take-step .last .1 .1 .0) r
+        → Turned d (a .below) (l .store) (l .held) (l .current) g hs (c .take-step .last .1 .1 .0) r
     took r e d o g hs h = rw e at (c .take-step .ensures .0 d g hs o h)
 
-    pays :
-        let a = c .before .before .before .before .before .before .before .before .before .before .before .before .before .before .before .args in
-        let l = c .before .before .before .before .before .before .before .before .loop in
-        l .used < a .steps .budget
-    pays = omega (arith, c .before .before .before .before .before .if1 .left, c .before .before .before .before .before .before .before .before .loop .inv .2)
+    pays : 0 < c .before .before .before .before .before .before .before .before .loop .current .left
+    pays = omega (arith, c .before .before .before .before .before .if1 .left)
 
     parked-at :
         let a = c .before .before .before .before .before .before .before .before .before .before .before .before .before .before .before .args in
         let l = c .before .before .before .before .before .before .before .before .loop in
         let store = c .take-step .last .1 .1 .0 in
-        (m : Mark) (k : ℕ) → c .take-step .result ≡ Park m k → (l .held ≤ length store) × (getD store (l .held - 1) 0 ≤ l .held) × (l .used < k) × (k ≤ a .steps .budget)
+        (m : Mark) (k : Account) → c .take-step .result ≡ Park m k
+        → (l .held ≤ length store) × (getD store (l .held - 1) 0 ≤ l .held) × (k .left < l .current .left) × Later (a .account) k
     parked-at m k e =
         let test = c .before .before .before .before .before .before .before in
         let q = test .before .before .before .before .before .before .before .before .pre .1 .0 in
-        parked-room (test .before .loop .inv .3 (q .deck) (q .goals) (q .opens) (q .holding)) (test .loop-test .taken) (c .take-step .last .1 .1 .0) m k
-        (c .take-step .kept .1 .1 .0) (took (Park m k) e (q .deck) (q .opens))
+        let u = parked-room (test .before .loop .inv .3 (q .deck) (q .goals) (q .opens) (q .holding)) (test .loop-test .taken) (c .take-step .last .1 .1 .0) m k
+        (c .take-step .kept .1 .1 .0) (took (Park m k) e (q .deck) (q .opens)) in
+        (u .0, u .1, u .2, then-later (test .before .before .before .before .before .before .before .before .args .account) (test .before .loop .current) k (test .before .loop .inv .2) (u .3))
 
     on-at :
         let a = c .before .before .before .before .before .before .before .before .before .before .before .before .before .before .before .args in
         let l = c .before .before .before .before .before .before .before .before .loop in
-        (h k : ℕ) → c .take-step .result ≡ More h k → (l .used < k) × (k ≤ a .steps .budget)
+        (h : ℕ) (k : Account) → c .take-step .result ≡ More h k → (k .left < l .current .left) × Later (a .account) k
     on-at h k e =
         let test = c .before .before .before .before .before .before .before in
         let q = test .before .before .before .before .before .before .before .before .pre .1 .0 in
-        on-later (test .before .loop .inv .3 (q .deck) (q .goals) (q .opens) (q .holding)) (test .loop-test .taken) (c .take-step .last .1 .1 .0) h k
-        (took (More h k) e (q .deck) (q .opens))
+        let u = on-later (test .before .loop .inv .3 (q .deck) (q .goals) (q .opens) (q .holding)) (test .loop-test .taken) (c .take-step .last .1 .1 .0) h k
+        (took (More h k) e (q .deck) (q .opens)) in
+        (u .0, then-later (test .before .before .before .before .before .before .before .before .args .account) (test .before .loop .current) k (test .before .loop .inv .2) (u .1))
 
     lengths :
         let a = c .before .before .before .before .before .before .before .before .before .before .before .before .before .before .before .args in
@@ -100,18 +100,21 @@ module _ (t : ℕ) where
         let n = c .before .before .before .before .before .before .before .before .loop .inv .0 in
         (l .0 ∙ n .0, m .0 ∙ n .1, m .1 .0 ∙ n .2, m .1 .1 .0 ∙ n .3)
 
-  pub level-add-used : level-lts.Need-add-used (level-E t) (level-at t) level.Post level-Inv-loop level-μ-loop
-  level-add-used c =
+  pub level-pay-one-requires : level-lts.Need-pay-one-requires (level-E t) (level-at t) level.Post level-Inv-loop level-μ-loop
+  level-pay-one-requires c κs =
       let at-take-step = c .before .before .before .before .before .before .before .before .before .before in
-      let start = at-take-step .before .before .before .before .before .before .before .before .before .before .before .before .before .before .before in
-      omega (arith, start .good .1 .1 .1 .1 .0, pays at-take-step)
+      let at-loop = at-take-step .before .before .before .before .before .before .before .before in
+      let start = at-loop .before .before .before .before .before .before .before in
+      (pays at-take-step, omega (arith, at-loop .loop .inv .2 .1, start .pre .1 .1 .1 .1, pays at-take-step))
 
   pub level-returns-2 : level-lts.Need-returns-2 (level-E t) (level-at t) level.Post level-Inv-loop level-μ-loop
   level-returns-2 c =
-      let at-take-step = c .before .before .before .before .before .before .before .before .before .before in
+      let at-take-step = c .before .before .before .before .before .before .before .before .before .before .before in
       let at-loop-test = at-take-step .before .before .before .before .before .before .before in
       let at-loop = at-loop-test .before in (
-        λ d gs o h. goes-succeeds (at-loop .loop .inv .3 d gs o h) (at-loop-test .loop-test .taken) (at-take-step .take-step .last .1 .1 .0) (pays at-take-step) (took at-take-step Empty (c .enum-told .given .1) d o),
+        λ d gs o h.
+            rw (c .pay-one .ensures)
+            (goes-succeeds (at-loop .loop .inv .3 d gs o h) (at-loop-test .loop-test .taken) (at-take-step .take-step .last .1 .1 .0) (pays at-take-step) (took at-take-step Empty (c .before .enum-told .given .1) d o)),
         at-take-step .take-step .ensures .1,
       )
 
@@ -120,26 +123,26 @@ module _ (t : ℕ) where
       let at-k = c .before in
       let at-take-step = at-k .before .before .before .before .before .before .before .before .before .before in
       let start = at-take-step .before .before .before .before .before .before .before .before .before .before .before .before .before .before .before in
-      omega (arith, parked-at at-take-step _ _ (at-k .k .given .1), lengths at-take-step .0, start .good .1 .1 .0)
+      omega (arith, parked-at at-take-step _ _ (at-k .after .given .1), lengths at-take-step .0, start .good .1 .1 .0)
 
   pub level-slice-read-wide : level-lts.Need-slice-read-wide (level-E t) (level-at t) level.Post level-Inv-loop level-μ-loop
   level-slice-read-wide c =
       let at-k = c .before .before in
       let at-take-step = at-k .before .before .before .before .before .before .before .before .before .before in
       let at-loop-test = at-take-step .before .before .before .before .before .before .before in
-      omega (arith, parked-at at-take-step _ _ (at-k .k .given .1), at-loop-test .loop-test .taken)
+      omega (arith, parked-at at-take-step _ _ (at-k .after .given .1), at-loop-test .loop-test .taken)
 
   pub level-sub-held : level-lts.Need-sub-held (level-E t) (level-at t) level.Post level-Inv-loop level-μ-loop
   level-sub-held c =
       let at-k = c .before .before .before in
       let at-take-step = at-k .before .before .before .before .before .before .before .before .before .before in
-      omega (arith, parked-at at-take-step _ _ (at-k .k .given .1), c .wide .ensures)
+      omega (arith, parked-at at-take-step _ _ (at-k .after .given .1), c .wide .ensures)
 
   pub level-loop-less : level-lts.Need-loop-less (level-E t) (level-at t) level.Post level-Inv-loop level-μ-loop
   level-loop-less c =
       let at-k = c .before .before .before in
       let at-take-step = at-k .before .before .before .before .before .before .before .before .before .before in
-      omega (arith, parked-at at-take-step _ _ (at-k .k .given .1))
+      omega (arith, parked-at at-take-step _ _ (at-k .after .given .1))
 
   pub level-loop-again : level-lts.Need-loop-again (level-E t) (level-at t) level.Post level-Inv-loop level-μ-loop
   level-loop-again c =
@@ -147,11 +150,11 @@ module _ (t : ℕ) where
       let at-take-step = at-k .before .before .before .before .before .before .before .before .before .before in
       let at-loop-test = at-take-step .before .before .before .before .before .before .before in
       let at-loop = at-loop-test .before in
-      let e = at-k .k .given .1 in (
+      let e = at-k .after .given .1 in (
         lengths at-take-step,
         at-take-step .take-step .ensures .1,
         parked-at at-take-step _ _ e .3,
-        λ d gs o h. goes-parked (at-loop .loop .inv .3 d gs o h) (at-loop-test .loop-test .taken) (at-take-step .take-step .last .1 .1 .0) (at-k .k .given .0 .0) _ (c .wide .result) (at-take-step .take-step .kept .1 .1 .0) (c .wide .ensures) (took at-take-step _ e d o),
+        λ d gs o h. goes-parked (at-loop .loop .inv .3 d gs o h) (at-loop-test .loop-test .taken) (at-take-step .take-step .last .1 .1 .0) (at-k .after .given .0 .0) _ (c .wide .result) (at-take-step .take-step .kept .1 .1 .0) (c .wide .ensures) (took at-take-step _ e d o),
       )
 
   pub level-loop-less-2 : level-lts.Need-loop-less-2 (level-E t) (level-at t) level.Post level-Inv-loop level-μ-loop

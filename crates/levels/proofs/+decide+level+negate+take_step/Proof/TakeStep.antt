@@ -108,8 +108,10 @@ module _ (t : ℕ) where
       (c .select-literal .ensures (d .symbols) g
       (goal-row (start .args .deck .now) (read at-copy-mirrored) o h (c .before .symbols .result .now) (at-wide .wide .result - 2 - 0) (c .before .symbols .ensures) (omega arith)))
 
-  pub take-step-add-t40 : take-step-lts.Need-add-t40 (take-step-E t) (take-step-at t) take-step.Post
-  take-step-add-t40 c = let start = c .before .before .before .before .before .before .before .before .before .before .before .before .before .before .before .before .before .before .before .before .before .before in omega (arith, start .good .1 .1 .1 .1 .0, start .pre .1 .1 .1)
+  pub take-step-pay-one-requires : take-step-lts.Need-pay-one-requires (take-step-E t) (take-step-at t) take-step.Post
+  take-step-pay-one-requires c κs =
+      let start = c .before .before .before .before .before .before .before .before .before .before .before .before .before .before .before .before .before .before .before .before .before .before in
+      (start .pre .1 .1 .1 .1, omega (arith, start .pre .1 .1 .1))
 
   pub take-step-sub-base : take-step-lts.Need-sub-base (take-step-E t) (take-step-at t) take-step.Post
   take-step-sub-base c =
@@ -135,13 +137,13 @@ module _ (t : ℕ) where
           after = k .after;
           is = to-derive (start .args .deck .now) (read at-copy-mirrored) (q .opens) (q .holding) _ _ k;
         },
-        (start .pre .1 .1 .0, (omega (arith, at-copy-mirrored .copy-mirrored .kept .1 .1 .1 .0, start .pre .1 .1 .1), start .pre .1 .1 .1 .2)),
+        (start .pre .1 .1 .0, (omega (arith, at-copy-mirrored .copy-mirrored .kept .1 .1 .1 .0, start .pre .1 .1 .1), start .pre .1 .1 .1 .3, start .pre .1 .1 .1 .1)),
       )
 
   pub take-step-expanded-requires : take-step-lts.Need-expanded-requires (take-step-E t) (take-step-at t) take-step.Post
   take-step-expanded-requires c κs =
       let start = c .before .before .before .before .before .before .before .before .before .before .before .before .before .before .before .before .before .before .before .before .before .before .before .before .before .before .before .before .before .before .before .before .before .before .before .before in
-      omega (arith, start .good .1 .1 .1 .1 .0, start .pre .1 .1 .1)
+      omega (arith, start .pre .1 .1 .1)
 
   pub take-step-negate-requires : take-step-lts.Need-negate-requires (take-step-E t) (take-step-at t) take-step.Post
   take-step-negate-requires c κs =
@@ -163,26 +165,26 @@ module _ (t : ℕ) where
             after = k .after;
             is = to-negate (start .args .deck .now) (read at-copy-mirrored) (q .opens) (q .holding) _ _ k;
           },
-          (start .pre .1 .1 .0, (omega (arith, at-copy-mirrored .copy-mirrored .kept .1 .1 .1 .0, start .pre .1 .1 .1), start .pre .1 .1 .1 .1, start .pre .1 .1 .1 .2)),
+          (start .pre .1 .1 .0, (omega (arith, at-copy-mirrored .copy-mirrored .kept .1 .1 .1 .0, start .pre .1 .1 .1), start .pre .1 .1 .1 .1, start .pre .1 .1 .1 .2, start .pre .1 .1 .1 .3)),
         ),
       )
 
   pub take-step-returns-2 : take-step-lts.Need-returns-2 (take-step-E t) (take-step-at t) take-step.Post
   take-step-returns-2 c =
-      let at-select-literal = c .before .before in
+      let at-select-literal = c .before .before .before in
       let at-if1 = at-select-literal .before .before .before .before .before .before .before .before .before in
       let at-wide2 = at-if1 .before in
       let at-wide = at-wide2 .before .before in
       let start = at-wide .before .before .before .before .before .before .before .before in (
         λ d g gs o h.
-            turned-floundered d (start .args .below) (start .args .steps .budget) (start .args .steps .used) (start .pre .1 .1 .1 .1) h (start .args .store .now)
+            rw (c .pay-one .ensures) (turned-floundered d (start .args .below) (start .args .account) (start .pre .1 .1 .1 .1) h (start .args .store .now)
             (more-than-answers g (λ e. at-if1 .if1 .left (omega (arith, at-wide .wide .ensures, at-wide2 .wide2 .ensures, first-length h, first-answers h))))
-            (is-nothing g (picked at-select-literal _ (c .enum-told .given .1) d g gs o h)) refl,
+            (is-nothing g (picked at-select-literal _ (c .before .enum-told .given .1) d g gs o h)) refl),
         start .pre .1 .1 .0,
       )
 
   pub take-step-same-length-4 : take-step-lts.Need-same-length-4 (take-step-E t) (take-step-at t) take-step.Post
-  take-step-same-length-4 c = c .before .before .before .before .before .before .before .before .before .derive .kept .1 .1 .1 .1 .1 .0 ∙ c .before .before .before .before .before .before .before .before .before .before .before .before .before .before .before .before .before .before .before .before .before .before .before .copy-mirrored .kept .1 .1 .1 .0
+  take-step-same-length-4 c = c .before .before .before .before .before .before .before .before .before .derive .kept .1 .1 .1 .1 .1 .1 .0 ∙ c .before .before .before .before .before .before .before .before .before .before .before .before .before .before .before .before .before .before .before .before .before .before .before .copy-mirrored .kept .1 .1 .1 .0
 
   pub take-step-same-length-8 : take-step-lts.Need-same-length-8 (take-step-E t) (take-step-at t) take-step.Post
   take-step-same-length-8 c = c .before .before .before .before .before .before .before .before .negate .kept .1 .1 .1 .1 .1 .1 .0 ∙ c .before .before .before .before .before .before .before .before .before .before .before .before .before .before .before .before .before .before .before .before .before .before .copy-mirrored .kept .1 .1 .1 .0
@@ -198,7 +200,7 @@ module _ (t : ℕ) where
         λ d g gs o h.
             let k = is-positive g _ _ (picked at-select-literal _ (at-s .s .given .1) d g gs o h) in
             rw (c .expanded .ensures)
-            (turned-expanded d (start .args .below) (start .args .steps .budget) (start .args .steps .used) (start .pre .1 .1 .1 .1) h (r .last .1 .0) (r .result) (r .kept .1 .0) (k .selects)
+            (turned-expanded d (start .args .below) (start .args .account) (start .pre .1 .1 .1 .1) h (k .selects) (r .last .1 .0) (r .result) (r .kept .1 .0)
             (r .ensures .0 d g gs (k .before) (k .predicate) (k .terms) (k .after) (to-derive (start .args .deck .now) (read at-copy-mirrored) o h _ _ k))),
         r .ensures .1,
       )

@@ -1,4 +1,4 @@
--- The verdict's line, the stop and the four numbers are the first two lines of the listing, at most 58 bytes.
+-- The verdict's line, the stop and the five numbers are the first two lines of the listing, at most 69 bytes.
 use borrow.Author.Needs.{needs}
 use Prim.Native.Nat.{ℕ, _<_, _≤_}
 use mathlib.Core.Path.{_∙_, _≡_}
@@ -44,15 +44,15 @@ before-counts c =
 
 counts-fit :
     (c : tie.After-put-counts-arg) → let r = c .before .before .before .before .before .before .before .before .before .before .before .args .report in
-    length (countsText (r .steps) (r .answers) (r .pending) (r .parked)) ≤ 45
+    length (countsText (r .steps) (r .answers) (r .pending) (r .parked) (r .cost)) ≤ 56
 counts-fit c =
     let r = c .before .before .before .before .before .before .before .before .before .before .before .args .report in
     let known = c .before .struct-known .given in
     let fits : (n : ℕ) → n < 4294967296 → length (decimal n []) ≤ 10 = λ n h. decimal-length 9 n (omega arith) in
-    counts-length (r .steps) (r .answers) (r .pending) (r .parked)
+    counts-length (r .steps) (r .answers) (r .pending) (r .parked) (r .cost)
     (fits (r .steps) (omega (arith, known)))
     (fits (r .answers) (c .before .before .before .before .before .before .before .before .before .before .before .pre .0 .1))
-    (fits (r .pending) (omega (arith, known))) (fits (r .parked) (omega (arith, known)))
+    (fits (r .pending) (omega (arith, known))) (fits (r .parked) (omega (arith, known))) (fits (r .cost) (omega (arith, known)))
 
 put-verdict-requires : tie.Need-put-verdict-requires
 put-verdict-requires c κs = search needs

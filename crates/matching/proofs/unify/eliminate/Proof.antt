@@ -30,8 +30,8 @@ module _ {ar cells : List ℕ} (t t′ : List ℕ) {n v : ℕ} (same : Same t t�
   trail-place : 1280 + n < length t′
   trail-place = part-inside 1280 1280 t′ trail-room .1
 
-  binds : {p : ℕ} → Final cells (bindOf t) p → Occurs (occ v (value ar cells (bindOf t) (trailOf t) n p)) false → let x = set (set t′ v p) (1280 + n) v in RanVariable ar cells (bindOf t) (trailOf t) n v p (bindOf x) (trailOf x) (marksOf x) (Unified (n + 1))
-  binds {p} f o = rw (bound-bind t′ p v bind-room trail-room, bound-trail t′ p v bind-room trail-room, bound-marks t′ p v bind-room trail-room, same .bind, same .trail) (eliminate-binds c u f o)
+  binds : {p : ℕ} (rest : ℕ) → Final cells (bindOf t) p → Occurs (occ v (value ar cells (bindOf t) (trailOf t) n p)) false → let x = set (set t′ v p) (1280 + n) v in RanVariable ar cells (bindOf t) (trailOf t) n v p rest (bindOf x) (trailOf x) (marksOf x) (Unified (n + 1) rest)
+  binds {p} rest f o = rw (bound-bind t′ p v bind-room trail-room, bound-trail t′ p v bind-room trail-room, bound-marks t′ p v bind-room trail-room, same .bind, same .trail) (eliminate-binds c u f rest o)
 
 occurs-requires : tie.Need-occurs-requires
 occurs-requires c κs = let s = c .before .before .before .before .pre in (checking-start _ (s .0), s .1 .1 .inside)
@@ -40,7 +40,7 @@ returns : tie.Need-returns
 returns c =
     let s = c .before .before .before .before .before .before .before .before .pre in
     let e = c .before .before .before .occurs .ensures in
-    rw (e .1 .1 .bind, e .1 .1 .trail) (eliminate-fails (e .1 .0) (s .1 .0) (s .1 .1) (occurs-by (e .0) (c .if1 .taken)))
+    rw (e .1 .1 .bind, e .1 .1 .trail) (eliminate-fails (e .1 .0) (s .1 .0) (s .1 .1) _ (occurs-by (e .0) (c .if1 .taken)))
 
 mul-table : tie.Need-mul-table
 mul-table c = let s = c .before .before .before .before .before .before .before .before .pre in let e = c .before .before .before .occurs .ensures in omega (arith, s .1 .0 .inside, s .0 .good .narrow)
@@ -60,7 +60,7 @@ slice-write-table-2 c = let s = c .before .before .before .before .before .befor
 returns-2 : tie.Need-returns-2
 returns-2 c =
     let s = c .before .before .before .before .before .before .before .before .pre in let e = c .before .before .before .occurs .ensures in
-    binds _ _ (e .1 .1) (e .1 .0) (s .1 .0) (s .1 .1) (occurs-by (e .0) (c .if1 .left))
+    binds _ _ (e .1 .1) (e .1 .0) (s .1 .0) _ (s .1 .1) (occurs-by (e .0) (c .if1 .left))
 
 pub eliminate-spec : {M : Type 1} → statement M
 eliminate-spec = tie.close (tie.spec

@@ -3,7 +3,9 @@ use mathlib.Core.Path.{refl}
 use native.Mathlib.Omega.{arith}
 use borrow.Author.Needs.{needs}
 use Rattle.rules.specs.Resolution.{resolvent}
-use Rattle.resolvents.proofs.DraftLaws.{draft-words}
+use Rattle.resolvents.specs.Drafts.{childOf}
+use Rattle.resolvents.specs.Deriving.{equationsOf}
+use Rattle.resolvents.proofs.DraftLaws.{draft-attempt}
 use Rattle.resolvents.proofs.CallLaws.{selected-inside, arity-known, few-variables, fresh-fit, first-argument, first-of-head, call-differs, call-short, call-room, both-cells, goal-kept, call-together, call-resolved}
 use Rattle.resolvents.proofs.resolve.resolve_clause.Statement.{statement}
 use Rattle.resolvents.proofs.resolve.resolve_clause.Tie as tie
@@ -54,11 +56,15 @@ shared-slice-read-differ c =
 
 returns : tie.Need-returns
 returns c =
-    let start = c .before .before .before .before .before .before .before .before .before .before .before .before in
-    let arity-of = c .before .before .before .before .before .arity-of in
-    let if1 = c .before .before .before .before .if1 in
-    let differ = c .before .differ in
-    (λ S g before p ts after clause k a. call-differs k a _ (rw (arity-of .ensures) at (if1 .taken)) (differ .ensures (c .if2 .taken)), (start .pre .1 .0, refl))
+    let start = c .before .before .before .before .before .before .before .before .before .before .before .before .before in
+    let arity-of = c .before .before .before .before .before .before .arity-of in
+    let if1 = c .before .before .before .before .before .if1 in
+    let differ = c .before .before .differ in (
+      λ S g before p ts after clause k a.
+          call-differs k a (start .args .left) (start .args .draft .now) (c .fails-at-once .result) (rw (arity-of .ensures) at (if1 .taken)) (differ .ensures (c .before .if2 .taken))
+          (c .fails-at-once .ensures (start .args .draft .now)),
+      (start .pre .1 .0, refl),
+    )
 
 cast-copy-fresh : tie.Need-cast-copy-fresh
 cast-copy-fresh c =
@@ -94,12 +100,12 @@ returns-2 c =
     let arity-of = c .before .before .before .before .before .before .before .before .before .before .before .before .before .before .arity-of in
     let copy-fresh = c .before .before .before .before .before .before .before .before .before .before .before .copy-fresh in
     let resolve-cells = c .before .before .before .before .resolve-cells in (
-      λ S g before p ts after clause k a. draft-words (resolvent (start .args .n) (g .answers) before ts after clause) (resolve-cells .last .1 .1 .1 .1 .1 .0) (resolve-cells .result) (call-resolved k a (both-cells k a (copy-fresh .ensures) (start .pre .1 .1)) (arity-of .ensures) _ _ (resolve-cells .ensures .0)),
+      λ S g before p ts after clause k a. draft-attempt (resolvent (start .args .n) (g .answers) before ts after clause) (equationsOf (start .args .n) ts clause) (start .args .left) (resolve-cells .last .1 .1 .1 .1 .1 .1 .0) (resolve-cells .result) (call-resolved k a (both-cells k a (copy-fresh .ensures) (start .pre .1 .1)) (arity-of .ensures) (start .args .left) (childOf (resolve-cells .last .1 .1 .1 .1 .1 .1 .0)) (resolve-cells .result) (resolve-cells .ensures .0)),
       (resolve-cells .ensures .1, goal-kept (start .pre .0 .calls) (start .pre .0 .about) (copy-fresh .ensures) (start .pre .1 .1)),
     )
 
 pub resolve-clause-spec : {M : Type 1} → statement M
 resolve-clause-spec = tie.close (tie.spec
     mul-arity-of slice-read-arity-of cast-arity-of arity-of-requires add-differ mul-differ slice-read-differ shared-slice-read-differ
-    (λ c. search needs) returns cast-copy-fresh copy-fresh-requires add-total (λ c. search needs) (λ c. search needs)
-    part-resolve-cells-end resolve-cells-requires (λ c. search needs) (λ c. search needs) (λ c. search needs) returns-2)
+    (λ c. search needs) (λ c. search needs) returns cast-copy-fresh copy-fresh-requires add-total (λ c. search needs)
+    (λ c. search needs) part-resolve-cells-end resolve-cells-requires (λ c. search needs) (λ c. search needs) (λ c. search needs) returns-2)

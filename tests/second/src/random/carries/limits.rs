@@ -36,6 +36,7 @@ fn shape(name: &'static str, terms: u64, pending: Vec<Vec<u16>>, parked: Vec<Vec
 /// Each with several budgets, and with stores just so long, one longer and more.
 pub fn limits() -> Vec<CarryCase> {
     let mut cases = orders();
+    cases.extend(oversized());
     for shape in lengths().into_iter().chain(long_goals()) {
         for budget in [0, 1, 2, 3, 100] {
             for store_words in [1_024, 1_025, 1_026, 2_047, 2_048, 2_049, 2_050, 16_384] {
@@ -147,6 +148,20 @@ fn long_goals() -> Vec<Shape> {
         shapes.push(shape("a deep literal without end", 0, vec![cut], vec![]));
     }
     shapes
+}
+
+/// A goal of 1,024 words whose first derived goal is one word too long, and a clause after it: the step costs 3.
+fn oversized() -> Vec<CarryCase> {
+    let cells = [vec![Q, A], vec![PAD; 1_020]].concat();
+    let mut shape = shape("oversized", 0, vec![goal(0, 0, &cells)], vec![]);
+    shape.world.clauses[1] = vec![Q, A, PAD, PAD, PAD];
+    let mut cases = Vec::new();
+    for budget in [0, 1, 2, 3, 4, u32::MAX - 1, u32::MAX] {
+        for store_words in [1_024, 1_025, 16_384] {
+            cases.push(shape.case(budget, store_words));
+        }
+    }
+    cases
 }
 
 /// Many goals of 2 words.
