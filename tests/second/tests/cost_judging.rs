@@ -1,7 +1,6 @@
 //! The comparison finds slips in counting equations and in paying for steps, in fresh runs and in continued ones.
 
 use second::carry::comparison::Comparison;
-use second::carry::judge::Engine as _;
 use second::carry::{self, Given};
 use second::cost::slips::{Slipping, AT_LARGE, SLIPS};
 use second::judge::{judge, Engine, Lent, Report, Second};
