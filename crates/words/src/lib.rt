@@ -1,4 +1,6 @@
 // Slices of words: reading, copying, also as a mirror image, reversing a range, moving a range down. Nothing about logic.
+#![tactic(auto)]
+
 ghost use Rattle.std.specs.Prelude.{◌≡◌, ◌+◌, ◌-◌, ◌≤◌, ◌<◌, reverse, ◌++◌, length, get_or, take, drop};
 ghost use Rattle.std.proofs.lemmas.List.Edits.{sets};
 

@@ -1,0 +1,377 @@
+#!/usr/bin/env python3
+"""Turns Proof.antt files that walk the code by places into Invariants.antt and Answers.antt.
+
+usage: conv.py CRATE_DIR NAMES_JSON [--only SUBSTR]
+NAMES_JSON is what `rt check --generated DIR --old-names` writes (while the Proof.antt files are there).
+"""
+import json, os, re, sys
+
+IDENT = r"[A-Za-z_+µμλ◌ℕℤ][A-Za-z0-9_'+◌ℕℤµμ₀-₉-]*"
+
+def norm(s):
+    return re.sub(r"[^a-z0-9]", "", s.lower())
+
+class Fn:
+    def __init__(self, key, d):
+        self.key, self.d = key, d
+        self.places = {}
+        for (p, nn) in zip(d["places"], d["places_by_name"]):
+            self.places[p[0]] = dict(old=p[0], parent=p[1], step=p[2], callee=p[3], new=nn)
+        self.params = d.get("params", {})
+        self.needs = d["needs"]
+        self.asked = d["asked_at"]
+        self.loops = d["loops"]
+        self.changed = d["changed"]
+        self.arms = d.get("arms")
+
+warn = []
+def say(*a):
+    warn.append(" ".join(str(x) for x in a))
+
+def blocks(text):
+    return [b for b in re.split(r"\n[ \t]*\n", text) if b.strip()]
+
+def find_place(fn, name):
+    """an old place name as a proof file has it: tie.After-word2 -> place"""
+    for p in fn.places.values():
+        if p["old"] == name: return p
+    for p in fn.places.values():
+        if norm(p["old"]) == norm(name): return p
+    return None
+
+def conv_paths(body, fn, start, root="c", goalname=None, inplace=False):
+    """Rewrites paths through .before in body, where root is at place start. Follows let-aliases."""
+    alias = {root: start}
+    # let-aliases to places
+    pat = re.compile(r"let (%s) = (%s)((?:\.before)+) in[ \n]*" % (IDENT, IDENT))
+    while True:
+        m = None
+        for mm in pat.finditer(body):
+            if mm[2] in alias: m = mm; break
+        if not m: break
+        p = alias[m[2]]
+        for _ in range(m[3].count(".before")):
+            p = fn.places.get(p["parent"]) if p else None
+        if p is None:
+            say(fn.key, goalname, "alias past the start:", m[0]); break
+        alias[m[1]] = p
+        # drop the let; keep indentation of what follows
+        body = body[:m.start()] + body[m.end():]
+    def path(m):
+        who, chain = m[1], m[2]
+        if who not in alias: return m[0]
+        parts = chain.split(".")[1:]
+        p = alias[who]
+        i = 0
+        while i < len(parts) and parts[i] == "before":
+            q = fn.places.get(p["parent"]) if p["parent"] else None
+            if q is None:
+                say(fn.key, goalname, "past the start:", m[0]); return m[0]
+            p = q; i += 1
+        rest = parts[i:]
+        if not rest:
+            if inplace and i:
+                say(fn.key, goalname, "bare place in a helper:", m[0])
+            return "(goal.at.%s %s).%s" % (goalname, root, p["new"])
+        f = rest[0]
+        step_old, step_new = p["step"]
+        if p["parent"] is None:
+            return root + "." + ".".join(rest)
+        if norm(f) == norm(step_old) or norm(f) == norm(step_new):
+            rest = [step_new] + rest[1:]
+        elif f in ("lifetimes", "type_inv", "auto", "args", "requires", "ranges", "well_formed"):
+            pass
+        else:
+            if step_new and norm(f).rstrip("0123456789") == norm(step_old).rstrip("0123456789"):
+                say(fn.key, goalname, "step by likeness:", f, "->", step_new)
+                rest = [step_new] + rest[1:]
+            else:
+                say(fn.key, goalname, "unknown field", f, "at", p["old"], p["step"])
+        # positional parameters of a call
+        if len(rest) > 1 and rest[1] in ("new", "auto", "exit") and p["callee"] and p["callee"] in fn.params:
+            k, j = 0, 2
+            while j < len(rest) and rest[j] == "1": k += 1; j += 1
+            if j < len(rest) and rest[j] == "0" and k < len(fn.params[p["callee"]]):
+                rest = rest[:2] + [fn.params[p["callee"]][k]] + rest[j+1:]
+        return root + "." + ".".join(rest)
+    body = re.sub(r"(?<![A-Za-z0-9_'.◌₀-₉-])(%s)((?:\.[A-Za-z0-9_'◌₀-₉-]+)+)" % IDENT, path, body)
+    # bare aliases and bare c as an argument
+    def bare(m):
+        who = m[1]
+        if who == root:
+            return m[0]
+        p = alias[who]
+        if inplace:
+            say(fn.key, goalname, "bare alias in a helper:", who)
+            return m[0]
+        return "(goal.at.%s %s).%s" % (goalname, root, p["new"])
+    names = [a for a in alias if a != root]
+    if names:
+        body = re.sub(r"(?<![A-Za-z0-9_'.◌₀-₉-])(%s)(?![A-Za-z0-9_'.◌₀-₉-])" % "|".join(map(re.escape, names)), bare, body)
+    return body
+
+def loop_args(fn, k):
+    vs = fn.loops[k][1]; ch = fn.changed[k]
+    out = []
+    for v, c in zip(vs, ch):
+        out.append("l.initial." + v if c else "l." + v)
+    for v, c in zip(vs, ch):
+        if c: out.append("l." + v)
+    return out
+
+def subst(body, mp):
+    if not mp: return body
+    pat = r"(?<![A-Za-z0-9_'.◌₀-₉-])(%s)(?![A-Za-z0-9_'◌₀-₉-])" % "|".join(sorted(map(re.escape, mp), key=len, reverse=True))
+    return re.sub(pat, lambda m: mp[m[1]], body)
+
+def split_decl(b):
+    """-> comments, sig (name, type), unfold lines, clauses text"""
+    lines = b.split("\n")
+    com = []
+    while lines and lines[0].lstrip().startswith("--"): com.append(lines.pop(0))
+    return com, lines
+
+def dedent(lines, n):
+    return [l[n:] if l[:n].strip() == "" else l for l in lines]
+
+def flatten(text):
+    """removes `module _ (t : ℕ) where` and the like, dedenting what is inside"""
+    out = []; stack = []
+    lines = text.split("\n")
+    indent = 0
+    for l in lines:
+        if not l.strip(): out.append(l); continue
+        cur = len(l) - len(l.lstrip())
+        while stack and cur < stack[-1]: stack.pop()
+        if re.match(r"\s*module _ (\(t : ℕ\) )?where$", l) or re.match(r"\s*mutual$", l):
+            stack.append(cur + 2)
+            out.append("")
+            continue
+        d = 2 * len(stack)
+        out.append(l[d:] if l[:d].strip() == "" else l)
+    return "\n".join(out)
+
+def convert(path, fn, prefix, tparam, modpath, crate, outdir=None, write=True):
+    text = open(path, encoding="utf-8").read()
+    text = flatten(text)
+    bs = blocks(text)
+    head, uses, inv, ans, helpers, rest = [], [], [], [], [], []
+    spec_block = None
+    for b in bs:
+        lines = b.split("\n")
+        code = [l for l in lines if not l.lstrip().startswith("--")]
+        if not code:
+            head += lines; continue
+        first = code[0]
+        if first.startswith("use ") or first.startswith("mod "):
+            com = [l for l in lines if l.lstrip().startswith("--")]
+            head += com
+            # continuation lines of a use
+            cur = ""
+            for l in code:
+                if l.startswith("use ") or l.startswith("mod "):
+                    if cur: uses.append(cur)
+                    cur = l
+                else: cur += "\n" + l
+            if cur: uses.append(cur)
+            continue
+        if re.match(r"pub \+?[\w+-]+ : \{M : Type 1\} → statement M", first):
+            spec_block = b; continue
+        rest.append(b)
+    return head, uses, rest, spec_block
+
+def main():
+    crate_dir, names = sys.argv[1], json.load(open(sys.argv[2]))
+    only = sys.argv[sys.argv.index("--only") + 1] if "--only" in sys.argv else None
+    crate = os.path.basename(os.path.abspath(crate_dir))
+    for key, d in names.items():
+        if not key.startswith("Rattle-%s-proofs." % crate) or ".Lts" not in key: continue
+        tail = key[len("Rattle-%s-proofs." % crate):]
+        mod, lts = tail.rsplit(".Lts", 1)
+        rel = mod.split(".")
+        folder = os.path.join(crate_dir, "proofs", *rel)
+        pf = os.path.join(folder, "Proof.antt")
+        if not os.path.exists(pf): continue
+        if only and only not in mod: continue
+        cyc = rel[-1].startswith("+")
+        fn = Fn(tail, d)
+        try:
+            one(pf, folder, fn, mod, crate, lts.lstrip("-") if cyc else None)
+        except Exception as e:
+            import traceback; traceback.print_exc()
+            say(tail, "FAILED", repr(e))
+    print("\n".join(warn))
+
+STATE = {}
+
+def one(pf, folder, fn, mod, crate, cycfn):
+    head, uses, rest, spec = convert(pf, fn, None, None, None, crate)
+    key = pf
+    st = STATE.setdefault(key, dict(ans=[], inv=[], done=False))
+    # the list of goals in the order of spec's arguments
+    tparam = "t " if cycfn is not None else ""
+    # order of goals: from the type of each answer  X : tie.Need-Y
+    need_re = re.compile(r"^(?:pub )?(%s) : (?:%s\.)?Need-(\S+)(.*)$" % (IDENT, IDENT))
+    decls = []
+    for b in rest:
+        com, lines = split_decl(b)
+        # a block may hold several declarations, without blank lines
+        decls.append((com, lines))
+    # names of answers in order of spec arguments
+    answers = {}
+    for com, lines in decls:
+        m = need_re.match(lines[0])
+        if m: answers[m[1]] = (m[2], com, lines)
+    order = spec_order(spec, cycfn, answers)
+    needs = fn.needs
+    mapping = {}
+    if order is not None and len(order) == len(needs):
+        for a, (o, n), at in zip(order, needs, fn.asked):
+            mapping[a] = (n, at)
+    else:
+        # by names
+        say(fn.key, "order of goals: spec has", None if order is None else len(order), "and Rattle", len(needs), "- by names")
+        used = set()
+        for a, (needname, com, lines) in answers.items():
+            cand = [i for i, (o, n) in enumerate(needs) if i not in used and norm_need(needname) == norm_need(o)]
+            if not cand: cand = [i for i, (o, n) in enumerate(needs) if i not in used and norm_need(needname) == norm_need(n)]
+            if cand:
+                used.add(cand[0]); mapping[a] = (needs[cand[0]][1], fn.asked[cand[0]])
+            elif norm(needname) in ("samelength",) or True:
+                say(fn.key, "no goal for", a, needname)
+    invs, ans, helpers = [], [], []
+    loopk = {norm("invariant-" + l[0][0]): i for i, l in enumerate(fn.loops)}
+    inv_names = set()
+    for com, lines in decls:
+        sig = lines[0]
+        m = need_re.match(sig)
+        if m:
+            name = m[1]
+            if name not in mapping: continue
+            new, at = mapping[name]
+            place = fn.places.get(at[0])
+            body = "\n".join(lines[1:]) if True else ""
+            # signature may continue on more lines until the clause
+            k = 1
+            while k < len(lines) and not re.match(r"^%s( |$)" % re.escape(name), lines[k]) and not lines[k].startswith("unfolding"): k += 1
+            unf = []
+            while k < len(lines) and lines[k].startswith("unfolding"): unf.append(lines[k]); k += 1
+            clause = lines[k:]
+            if not clause: say(fn.key, "no clause for", name); continue
+            mm = re.match(r"^%s ((?:%s ?)*)=(.*)$" % (re.escape(name), IDENT), clause[0])
+            if not mm: say(fn.key, "odd clause", clause[0]); continue
+            args = mm[1].split()
+            bodyt = mm[2] + ("\n" + "\n".join(clause[1:]) if clause[1:] else "")
+            if bodyt.strip() == "search rules": continue
+            cvar = args[0] if args else "c"
+            if len(args) > 1 and re.search(r"(?<![\w.])%s(?![\w])" % re.escape(args[1]), bodyt):
+                say(fn.key, name, "uses", args[1])
+            bodyt = conv_paths(bodyt, fn, place, cvar, new)
+            out = list(com) + ["pub %s : goal.%s" % (new, new)] + unf + ["%s %s%s =%s" % (new, tparam, cvar, bodyt)]
+            ans.append((new, "\n".join(out)))
+            continue
+        mi = re.match(r"^(?:pub )?abbrev (?:pub )?(%s) : (?:%s\.)?((?:invariant|decreases)-\S+|Inv\S*|μ\S*)" % (IDENT, IDENT), sig)
+        if mi:
+            name = mi[1]; what = mi[2]
+            kind = "invariant" if norm(what).startswith("inv") else "decreases"
+            nm = re.sub(r"^(invariant|decreases)-", "", what)
+            k = None
+            for i, l in enumerate(fn.loops):
+                if norm(l[0][0]) == norm(nm): k = i
+            if k is None:
+                say(fn.key, "loop not found", what); continue
+            newn = "%s-%s" % (kind, fn.loops[k][0][1])
+            inv_names.add(name)
+            j = 1
+            while j < len(lines) and not re.match(r"^%s( |$)" % re.escape(name), lines[j]): j += 1
+            cl = "\n".join(lines[j:])
+            mm = re.match(r"^%s ((?:%s\s+)*)=(.*)$" % (re.escape(name), r"[^\s=]+"), cl, re.S)
+            if not mm: say(fn.key, "odd invariant", cl[:100]); continue
+            args = mm[1].split()
+            tgt = loop_args(fn, k)
+            if len(args) != len(tgt):
+                say(fn.key, "arguments of", name, args, tgt)
+            mp = {a: t for a, t in zip(args, tgt) if a != "_"}
+            invs.append("\n".join(list(com) + ["abbrev pub %s : goal.%s" % (newn, newn), "%s l =%s" % (newn, subst(mm[2], mp))]))
+            continue
+        helpers.append((com, lines))
+    # helpers
+    hout = []
+    invtext = "\n".join(invs)
+    hinv = []
+    for com, lines in helpers:
+        sig = "\n".join(lines)
+        m = re.match(r"^(?:pub )?(?:abbrev )?(?:pub )?(%s)\b" % IDENT, lines[0])
+        name = m[1] if m else "?"
+        mp = re.search(r"\((%s) : (%s)\.((?:After|In|At|Else|Then|Start|Over|Untold|Left|Told)[^\s)]*)[^)]*\)" % (IDENT, IDENT), sig)
+        # with nested parentheses in the type of c
+        mp2 = re.search(r"\((c) : (%s)\.((?:After|In|At|Else|Then|Start|Over|Untold|Left|Told)[^\s)]*)" % IDENT, sig)
+        if mp2:
+            p = find_place(fn, mp2[3])
+            if p is None:
+                if cycfn is None: say(fn.key, "helper", name, "place not found", mp2[3])
+                continue
+            # cut the type of c up to its closing parenthesis
+            i = mp2.start(); depth = 0
+            for j in range(i, len(sig)):
+                depth += (sig[j] == "(") - (sig[j] == ")")
+                if depth == 0: break
+            sig = sig[:i] + "(c : goal.%s)" % p["new"] + sig[j+1:]
+            sig = conv_paths(sig, fn, p, "c", "?", inplace=True)
+            hout.append("\n".join(com + [sig]))
+        else:
+            if re.search(r"\b(tie|%s-lts)\." % (cycfn or "zz"), sig):
+                say(fn.key, "helper", name, "cites the walk")
+            t = "\n".join(com + [sig])
+            if re.search(r"(?<![\w.'-])%s(?![\w'-])" % re.escape(name), invtext): hinv.append((name, t))
+            else: hout.append(t)
+    st["head"] = head; st["uses"] = uses
+    st["inv"] += invs; st.setdefault("hinv", []); st["hinv"] += [h for h in hinv if h not in st["hinv"]]
+    st.setdefault("h", []); st["h"] += [h for h in hout if h not in st["h"]]
+    st["ans"] += ans
+    st["folder"] = folder; st["mod"] = mod; st["crate"] = crate
+
+def norm_need(s):
+    s = s.replace("overflow-", "").replace("overflow_", "")
+    return norm(s)
+
+def spec_order(spec, cycfn, answers):
+    if spec is None: return None
+    t = re.sub(r"--.*", "", spec)
+    if cycfn is not None:
+        m = re.search(r"%s-lts\.spec" % re.escape(cycfn), t) or re.search(r"%s-lts\.spec" % re.escape(cycfn.replace("_", "-")), t)
+        if not m: return None
+        t = t[m.end():]
+        m2 = re.search(r"\w+-lts\.spec", t)
+        if m2: t = t[:m2.start()]
+    toks = []
+    i = 0
+    # items: (name t), (λ c. search rules), name
+    for m in re.finditer(r"\(λ [^()]*\)|\((%s)(?: t)?\)|(?<![\w.-])(%s)(?![\w.-])" % (IDENT, IDENT), t):
+        n = m[1] or m[2]
+        if m[0].startswith("(λ"): toks.append(None)
+        elif n in answers: toks.append(n)
+    return toks
+
+def write():
+    for pf, st in STATE.items():
+        d = st["folder"]
+        drop = re.compile(r"\.(Statement|Tie|Reads|Kinds)(\.| |$)|use borrow\.Author\.Rules\.\{rules\}|\.Lts|borrow\.Fn|\.\{statement\}|^mod |^use [A-Z]\w*\.\*$")
+        keep = [u for u in st["uses"] if not drop.search(u.split("\n")[0])]
+        M = "Rattle.%s.proofs.%s" % (st["crate"], st["mod"])
+        head = "\n".join(st["head"])
+        if st["inv"] or st["hinv"]:
+            t = (head + "\n" if head else "") + "\n".join(keep) + "\nuse %s.Given as goal\n\n" % M
+            for n, h in st["hinv"]: t += re.sub(r"^((?:--.*\n)*)(?:pub )?(abbrev |unfoldable )?(?:pub )?", lambda m: m[1] + ((m[2] or "") + "pub " if m[2] else "pub "), h, 1) + "\n\n"
+            t += "\n\n".join(st["inv"]) + "\n"
+            open(os.path.join(d, "Invariants.antt"), "w").write(t)
+        if st["ans"] or st["h"]:
+            t = (head + "\n" if head else "") + "\n".join(keep) + "\nuse borrow.Author.Rules.{rules}\n"
+            if st["hinv"]: t += "use %s.Invariants.{%s}\n" % (M, ", ".join(n for n, _ in st["hinv"]))
+            t += "use %s.Goals as goal\n\n" % M
+            t += "\n\n".join(st["h"] + [a for _, a in st["ans"]]) + "\n"
+            open(os.path.join(d, "Answers.antt"), "w").write(t)
+        os.remove(pf)
+
+main()
+if "--dry" not in sys.argv: write()
