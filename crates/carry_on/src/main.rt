@@ -1,5 +1,7 @@
 // The program that carries on: reads the deck from survey.dck, the goals from open.goals and the budget from standard input; prints the listing, and writes
 // the goals left to open.goals.new.
+#![tactic(auto)]
+
 ghost use Rattle.io.specs.Counts.{IsPrefixLen};
 
 // No more is read than it takes to tell that there is too much; of a budget 32 bytes.

@@ -1,5 +1,7 @@
 // The programs that keep open goals and carry on from them, as functions on bytes (document 02, U4): from the bytes of their inputs to the bytes that
 // are printed and those of the goals left.
+#![tactic(auto)]
+
 ghost use Rattle.std.specs.Prelude.{◌≤◌, length};
 ghost use Rattle.std.proofs.Math.Option.{some};
 ghost use Rattle.rules.specs.CarryProgram.{budget_from, open_words, open_run, carry_bytes, carry_run};

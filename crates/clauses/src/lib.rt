@@ -1,4 +1,6 @@
 // The clauses of an opened deck: their cells, and which come one after another about one predicate.
+#![tactic(auto)]
+
 ghost use Rattle.std.specs.Prelude.{◌≡◌, ◌+◌, ◌<◌, length, get_or};
 ghost use Rattle.rules.specs.Syntax.{Clause, Deck};
 ghost use Rattle.rules.specs.Refusals.{accepted};

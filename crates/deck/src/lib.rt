@@ -1,4 +1,6 @@
 // Opening a deck and checking a query (document 01, "The deck" and "Who can make the engine refuse"), and the deck's parts as the engine reads them.
+#![tactic(auto)]
+
 ghost use Rattle.std.specs.Prelude.{◌≡◌};
 ghost use Rattle.rules.specs.Refusals.{checked_number};
 ghost use Rattle.rules.specs.Decks.{open_deck};

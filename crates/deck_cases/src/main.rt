@@ -1,4 +1,6 @@
 // Opens decks and checks queries that are right, damaged or at a limit, and writes the numbers of the answers, 0 where all is accepted.
+#![tactic(auto)]
+
 mod build;
 mod damage;
 mod limits;

@@ -1,4 +1,6 @@
 // The step on a selected positive literal: the derived goals take the goal's place in the store.
+#![tactic(auto)]
+
 ghost use Rattle.std.specs.Prelude.{◌≡◌, ℕ, ◌≤◌, ◌<◌, List, length, take};
 ghost use Rattle.rules.specs.Terms.{Terms};
 ghost use Rattle.rules.specs.Syntax.{Literal, Clause, Deck, Goal};

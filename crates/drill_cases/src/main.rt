@@ -1,4 +1,6 @@
 // Drill terms of small decks: the refusal's number or how many terms were written, and then the words of the lent list.
+#![tactic(auto)]
+
 use deck::Checked;
 use drill::Drilled;
 use libc::STDOUT_FILENO;

@@ -1,4 +1,6 @@
 // The program that lists drill terms as a function on bytes: from the bytes of the deck file, if there is one, and of standard input to the bytes that are printed (document 02, U12).
+#![tactic(auto)]
+
 ghost use Rattle.std.specs.Prelude.{◌≡◌, ◌≤◌, length, get_or, drop};
 ghost use Rattle.rules.specs.DrillProgram.{drill_prints, drill_program};
 ghost use Rattle.listing.specs.Printed.{file_of, Printed};

@@ -1,4 +1,6 @@
 // The program: reads the deck from survey.dck, N and the given term from standard input, and prints the drill terms, or a refusal.
+#![tactic(auto)]
+
 ghost use Rattle.io.specs.Counts.{IsPrefixLen};
 
 // No more is read than it takes to tell that there is too much.

@@ -1,4 +1,6 @@
 // The public run: its refusals, and an accepted run from the first goal to the report.
+#![tactic(auto)]
+
 ghost use Rattle.std.specs.Prelude.{◌≡◌, ℕ, ◌≤◌, length, List};
 ghost use Rattle.rules.specs.Refusals.{accepted, checked_number};
 ghost use Rattle.rules.specs.Run.{run, check_sizes};

@@ -1,4 +1,6 @@
 // The program: reads the deck from survey.dck and the query from standard input, and prints the listing.
+#![tactic(auto)]
+
 ghost use Rattle.io.specs.Counts.{IsPrefixLen};
 
 // No more is read than it takes to tell that there is too much.

@@ -1,4 +1,6 @@
 // The engine for C and Rust (include/leads.h). Each call returns 0, or the refusal's number with nothing touched; reading a text tells the place of 10, and leaves the lent list free after 1 to 5.
+#![tactic(auto)]
+
 ghost use Rattle.std.specs.Prelude.{◌≡◌};
 ghost use Rattle.rules.specs.Refusals.{checked_number};
 ghost use Rattle.rules.specs.Decks.{open_deck, check_query};

@@ -3,6 +3,8 @@
 // The file has the number of cases, and then for each case: the length of its line, and the line; 1 if there is a deck file, and else 0;
 // the deck; the query. The deck and the query are each: the length in bytes, how many of the bytes are given, and these; the others are 0.
 // Numbers are two bytes, low byte first.
+#![tactic(auto)]
+
 ghost use Rattle.io.specs.Counts.{IsPrefixLen};
 
 use libc::STDOUT_FILENO;

@@ -1,5 +1,7 @@
 // The program with a budget: reads the deck from survey.dck, the budget from the file budget, if there is one, and the query from standard input; prints
 // the listing, and writes the goals left to open.goals.new.
+#![tactic(auto)]
+
 ghost use Rattle.io.specs.Counts.{IsPrefixLen};
 
 // No more is read than it takes to tell that there is too much; of a budget 32 bytes.

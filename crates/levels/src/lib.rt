@@ -1,4 +1,6 @@
 // A step, the decision of a negative literal by a new level, and a level's run call each other: the levels left fall.
+#![tactic(auto)]
+
 ghost use Rattle.std.specs.Prelude.{◌≡◌, ℕ, suc, ◌+◌, ◌-◌, ◌≤◌, ◌<◌, List, [], ◌∷◌, length, take};
 ghost use Rattle.rules.specs.Terms.{Terms};
 ghost use Rattle.rules.specs.Syntax.{Literal, Deck, Goal};

@@ -1,4 +1,6 @@
 // The bytes of the printed listing (document 01, "The printed listing"), and the words of the program's inputs.
+#![tactic(auto)]
+
 ghost use Rattle.std.specs.Prelude.{◌≡◌, ◌+◌, ◌*◌, ◌≤◌, length};
 ghost use Rattle.rules.specs.Evaluation.{Outcome};
 ghost use Rattle.rules.specs.Refusals.{accepted};

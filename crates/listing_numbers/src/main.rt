@@ -1,4 +1,6 @@
 // Numbers at the borders of what the listing prints, one to a line.
+#![tactic(auto)]
+
 use libc::STDOUT_FILENO;
 use listing::numbers;
 

@@ -1,4 +1,6 @@
 // Loose variables (document 02, U5): refusal 13, one in a clause, and 14, one in the query; and the public check of a query.
+#![tactic(auto)]
+
 ghost use Rattle.std.specs.Prelude.{◌+◌, ◌*◌, ◌<◌, ◌≡◌, List, length};
 ghost use Rattle.rules.specs.Syntax.{Literal, Clause, Deck};
 ghost use Rattle.rules.specs.Refusals.{accepted, checked_number};

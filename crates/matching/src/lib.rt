@@ -6,6 +6,8 @@
 //
 // Between unifications no variable is bound and every mark is 0. `undo` makes them so again from the
 // trail, so that no unification costs what the table is long.
+#![tactic(auto)]
+
 pub mod bindings; // following bindings, and taking them back
 pub mod cells; // terms as cells
 mod occurs; // the occurs check: document 01's test that a term contains a variable

@@ -1,4 +1,6 @@
 // The program as a function on bytes: from the bytes of the deck file, if there is one, and of the query to the bytes that are printed.
+#![tactic(auto)]
+
 ghost use Rattle.rules.specs.Listing.{listing};
 ghost use Rattle.rules.specs.Program.{program};
 ghost use Rattle.listing.specs.Printed.{file_of, Printed};

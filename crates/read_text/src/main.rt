@@ -1,5 +1,7 @@
 // The program: reads a text from standard input, and prints the words of its deck, low byte first, or a refusal.
 
+#![tactic(auto)]
+
 // No more is read than it takes to tell that there is too much.
 fn main() {
     let mut text = [0u8; 262145];

@@ -1,4 +1,6 @@
 // Reading a text as a deck's words (document 02, U1).
+#![tactic(auto)]
+
 ghost use Rattle.reading.specs.Reads.{DidRead};
 
 use deck::Refusal;

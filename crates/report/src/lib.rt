@@ -1,4 +1,6 @@
 // What an accepted run returns.
+#![tactic(auto)]
+
 ghost use Rattle.std.specs.Prelude.{◌≡◌};
 ghost use Rattle.rules.specs.Evaluation.{stop_number};
 ghost use Rattle.report.specs.Reports.{stop_of};

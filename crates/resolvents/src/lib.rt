@@ -1,4 +1,6 @@
 // The selected literal and the derived goals, which the written rules call resolvents.
+#![tactic(auto)]
+
 pub mod fresh;
 pub mod put;
 pub mod resolve;

@@ -1,4 +1,6 @@
 // What the symbol words of a deck say of its symbols: the one place that knows how they are laid out.
+#![tactic(auto)]
+
 ghost use Rattle.std.specs.Prelude.{◌<◌, ◌≡◌};
 ghost use Rattle.signature.specs.Symbols.{symbol_count, arity_at, is_predicate};
 

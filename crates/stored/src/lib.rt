@@ -1,4 +1,6 @@
 // Whether a store begins with open goals from which a run can carry on (document 02, U4, refusal 12), and how many words they take.
+#![tactic(auto)]
+
 ghost use Rattle.std.specs.Prelude.{◌+◌, ◌≤◌, ◌≡◌, true, ◌&&◌, length, eqb};
 ghost use Rattle.rules.specs.Syntax.{Deck};
 ghost use Rattle.rules.specs.Refusals.{accepted};

@@ -3,6 +3,8 @@
 // The file has the number of cases, and then for each case: the length of its line, and the line; 0 for a text to be read, 1 for a deck file to be
 // written as text, 2 for a deck file that is missing; the input: the length in bytes, how many of the bytes are given, and these; the others are spaces.
 // Numbers are three bytes, low byte first.
+#![tactic(auto)]
+
 ghost use Rattle.io.specs.Counts.{IsPrefixLen};
 
 use libc::STDOUT_FILENO;

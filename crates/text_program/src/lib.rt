@@ -1,4 +1,6 @@
 // The programs over texts as functions on bytes: from the bytes of their input to the bytes that are printed (document 02, U1).
+#![tactic(auto)]
+
 ghost use Rattle.text_rules.specs.TextProgram.{read_program, write_program};
 ghost use Rattle.listing.specs.Printed.{file_of, Printed};
 

@@ -1,4 +1,6 @@
 // Level 0: its answers go to the answer list, its parked goals stay at the start of the store.
+#![tactic(auto)]
+
 ghost use Rattle.std.specs.Prelude.{◌≡◌, ℕ, ◌+◌, ◌-◌, ◌*◌, ◌≤◌, ◌<◌, List, [], ◌∷◌, length};
 ghost use Rattle.rules.specs.Syntax.{Symbol, Literal, Deck, Goal};
 ghost use Rattle.rules.specs.Refusals.{accepted};

@@ -1,4 +1,6 @@
 // Uses of names in the clauses of a text (document 02, U1).
+#![tactic(auto)]
+
 mod arities;
 mod batch;
 mod brackets;

@@ -1,4 +1,6 @@
 // The program: reads the deck from survey.dck, and prints it as text, or a refusal.
+#![tactic(auto)]
+
 ghost use Rattle.io.specs.Counts.{IsPrefixLen};
 
 // No more is read than it takes to tell that there is too much.

@@ -1,4 +1,6 @@
 // A deck as text (document 02, U1).
+#![tactic(auto)]
+
 ghost use Rattle.writing.specs.Writes.{Opens, Wrote, result_of};
 
 use deck::{Checked, Refusal, parts};
