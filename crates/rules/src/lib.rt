@@ -1,3 +1,5 @@
+#![tactic(auto)]
+
 ghost use Rattle.std.specs.Prelude.{◌≡◌};
 
 // The written rules have no code: they are the definitions of specs/ and the theorems of proofs/.

@@ -1,3 +1,5 @@
+#![tactic(auto)]
+
 ghost use Rattle.std.specs.Prelude.{◌≡◌};
 
 // The written rules of texts (document 02, U1) have no code, as those of the runs; a crate needs a function.
