@@ -4,7 +4,7 @@ use mathlib.Core.Path.{◌≡◌, refl}
 use mathlib.Core.List.{List, [], ◌∷◌, map}
 use Rattle.rules.specs.Evaluation.{finished, budget}
 use Rattle.rules.specs.All.{rules}
-use Rattle.rules.proofs.Cases.{Case, Line, case, shows, actual}
+use Rattle.rules.proofs.Cases.{Case, case, shows, actual}
 
 -- Clauses p(x, x) if e(x); p(f(a), b); e(a). Symbols: a, b, f, p, e.
 abbrev pub deck_y : List ℕ

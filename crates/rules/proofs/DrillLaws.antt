@@ -276,6 +276,7 @@ before-once x y (inr h) (inl k) = omega (arith, h.0)
 before-once x y (inr h) (inr k) = cells-once x y h.1 k.1
 
 all-member : (P : List ℕ → Type 0) (x : List ℕ) (L : List (List ℕ)) → All P L → Memᴰ x L → P x
+all-member P x [] h m = elim m [ ]
 all-member P x (y ∷ L) h (Memᴰ.head e) = subst P (sym e) h.0
 all-member P x (y ∷ L) h (Memᴰ.tail m) = all-member P x L h.1 m
 
@@ -379,6 +380,7 @@ same_self (a ∷ x) = ap₂ ◌&&◌ (eq-eqb a a refl) (same_self x)
 
 past-member : (x : List ℕ) (L : List (List ℕ)) → past x L ≡ none → Memᴰ x L → ⊥
 unfolding past
+past-member x [] e m = elim m [ ]
 past-member x (t ∷ L) e m = go (same x t) refl (Memᴰ.cases_cons m) (past-member x L)
   where
     go : (b : Bool) → same x t ≡ b → (x ≡ t) ⊎ Memᴰ x L → (past x L ≡ none → Memᴰ x L → ⊥) → ⊥

@@ -65,7 +65,7 @@ module _ {clauses : List Clause} {answer_room store_size : ℕ} where
   zeroth-success a = elim a [ ]
 
   -- At level 0 a level never succeeds.
-  pub zeroth-stops : {below : ℕ} {a b : Account} {l l' : Level} → Runs clauses answer_room store_size below zeroth l a (ended succeeded l' b) → ⊥
+  pub zeroth-stops : {below : ℕ} {a : Account} {l : Level} {b : Account} {l' : Level} → Runs clauses answer_room store_size below zeroth l a (ended succeeded l' b) → ⊥
   zeroth-stops (steps n r) = zeroth-stops r
   zeroth-stops (wins n) = zeroth-success (next-ahead n)
   zeroth-stops (proves n i r) = zeroth-stops r

@@ -9,7 +9,7 @@ use lib.Dec.{leb}
 use borrow.Author.Tests.{le-leb, leb-true}
 use Rattle.rules.specs.Terms.{sizes, vars_terms}
 use Rattle.rules.specs.Syntax.{Symbol, Literal, vars_literals}
-use Rattle.rules.specs.Cells.{write_literals, numbered}
+use Rattle.rules.specs.Cells.{numbered}
 use Rattle.rules.specs.Goals.{appearing, variables, query_variables, first_goal}
 use Rattle.rules.specs.WellFormed.{WfTerms, WfQuery, WfGoal}
 use Rattle.rules.proofs.CellLaws.{literals-length, literals-vars}

@@ -55,10 +55,12 @@ module _ (clauses : List Clause) where
   from-prop (some_false ν ls) = ∥∥₁_prop
 
   from : (f : Fact) → Shown clauses f → From f
-  from f (gives c m ν p us e h body) = ∣ (c, m, ν, e, h, body) ∣₁
-  from f (denies p us h) = h
-  from f (one ν ls l m h) = ∣ (l, m, h) ∣₁
-  from f (squash g x y i) = from-prop g (from g x) (from g y) i
+  from f s = elim s as (λ g t. From g) [
+    | gives c m ν p us e h body ↦ ∣ (c, m, ν, e, h, body) ∣₁
+    | denies p us h ↦ h
+    | one ν ls l m h ↦ ∣ (l, m, h) ∣₁
+    | squash g (x → from_x) (y → from_y) i ↦ from-prop g from_x from_y i
+  ]
 
   -- NEVER BOTH. What a fact that is shown rules out.
   abbrev Against : Fact → Type 0
@@ -80,13 +82,14 @@ module _ (clauses : List Clause) where
   false-against ν (neg p ts) h = h
 
   against : (f : Fact) → Shown clauses f → Against f
-  against f (gives c m ν p us e h body) =
-      λ n. ∥∥₁_elim (from (some_false ν c.body) (from (false_atom p us) n c m ν e h)) ⊥_prop
-      (λ s. true-against ν s.0 (against (true_literal ν s.0) (body s.0 s.1)) s.2)
-  against f (denies p us h) =
-      λ t. ∥∥₁_elim (from (true_atom p us) t) ⊥_prop (λ s. against (some_false s.2 s.0.body) (h s.0 s.1 s.2 s.3 s.4) s.5)
-  against f (one ν ls l m h) = λ all. false-against ν l (against (false_literal ν l) h) (all l m)
-  against f (squash g x y i) = against-prop g (against g x) (against g y) i
+  against f s = elim s as (λ g t. Against g) [
+    | gives c m ν p us e h (body → against_body) ↦
+        λ n. ∥∥₁_elim (from (some_false ν c.body) (from (false_atom p us) n c m ν e h)) ⊥_prop
+        (λ s. true-against ν s.0 (against_body s.0 s.1) s.2)
+    | denies p us (h → against_h) ↦ λ t. ∥∥₁_elim (from (true_atom p us) t) ⊥_prop (λ s. against_h s.0 s.1 s.2 s.3 s.4 s.5)
+    | one ν ls l m (h → against_h) ↦ λ all. false-against ν l against_h (all l m)
+    | squash g (x → against_x) (y → against_y) i ↦ against-prop g against_x against_y i
+  ]
 
 -- THE INTERPRETATION
 pub fitting : Deck → Interpretation3

@@ -18,7 +18,7 @@ use Rattle.rules.specs.Resolution.{select, clauses_about, fresh, resolved, resol
 use Rattle.rules.specs.Evaluation.{finished, stopped, Level, with_pending, with_parked, held, zeroth, derive_act, selected_act, literals_act, act_of, derive, park, step, act_step, unless_over, check_store, Account, first_cost, ended, next_from, next_of, evaluate_level, stop_of, outcome, evaluate}
 use Rattle.rules.proofs.NumberingLaws.{renumber-same}
 use Rattle.rules.proofs.LevelLaws.{level-steps, level-empty}
-use Rattle.rules.proofs.Cases.{Line, case, shows, shown, outcome_of, actual}
+use Rattle.rules.proofs.Cases.{case, shows, shown, outcome_of, actual}
 use Rattle.rules.proofs.MoreRuns.{deck_f}
 
 -- The term f(.. f(a) ..), with n times f, as its functor and arguments.

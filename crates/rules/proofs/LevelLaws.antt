@@ -1,6 +1,6 @@
 -- The evaluation's recursion: how a level comes to its end, as a relation without bounds (`Runs`); every level runs so, and to no other end;
 -- and so the equations of a level hold without the bound on its turns.
-use Prim.Native.Nat.{ℕ, zero, suc, ◌+◌, ◌-◌, ◌≤◌, ◌<◌}
+use Prim.Native.Nat.{ℕ, zero, suc, ◌+◌, ◌≤◌, ◌<◌}
 use mathlib.Core.Path.{◌≡◌, refl, ◌∙◌}
 use mathlib.Core.List.{List, [], ◌∷◌}
 use native.Mathlib.Omega.{arith}

@@ -1,7 +1,7 @@
 -- A level keeps what its goals cover, wherever it stops; one that succeeds shows its goal possible, one that finishes with nothing parked
 -- shows that it is not (Clark's theorem 2), so that a negative literal's step keeps the cover. All of it for two readings, from I before to I after
 -- and from J after to J before (`OneWay`); with two values they are one.
-use Prim.Native.Nat.{ℕ, zero, suc, ◌+◌, ◌-◌}
+use Prim.Native.Nat.{ℕ, zero, suc, ◌+◌}
 use mathlib.Core.Path.{◌≡◌, refl, sym, ◌∙◌, subst}
 use mathlib.Core.Logic.{◌≢◌, inl, inr}
 use mathlib.Core.Bool.{Bool, true, false}

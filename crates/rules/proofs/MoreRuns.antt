@@ -7,7 +7,7 @@ use Rattle.rules.specs.Goals.{undecided, oversized}
 use Rattle.rules.specs.Evaluation.{finished, budget, answers, store}
 use Rattle.rules.specs.Run.{answers_after, store_start}
 use Rattle.rules.specs.All.{rules}
-use Rattle.rules.proofs.Cases.{Case, Line, case, shows, actual, outcome_of, words_of_run}
+use Rattle.rules.proofs.Cases.{Case, case, shows, actual, outcome_of, words_of_run}
 use Rattle.rules.proofs.Table.{deck_l}
 
 -- The cells of f(.. f(a) ..), with n times the functor f, which has number 1; a has number 0.

@@ -2,7 +2,7 @@
 -- terms, literals and goals: a renumbered goal is in order, a goal in order is its own renumbering, and the variables of a goal in order
 -- are the numbers below `top_goal`, as many as have appeared.
 use Prim.Native.Nat.{ℕ, zero, suc, ◌+◌, ◌≤◌, ◌<◌, max}
-use mathlib.Core.Path.{◌≡◌, refl, sym, ◌∙◌, ap, ap₂}
+use mathlib.Core.Path.{◌≡◌, refl, sym, ◌∙◌, ap, ap₂, subst}
 use mathlib.Core.Logic.{◌↔◌, ◌⊎◌, inl, inr}
 use mathlib.Core.Bool.{Bool, true, false, ◌&&◌, ◌||◌, true≢false, false≢true}
 use mathlib.Core.List.Memᴰ
@@ -56,7 +56,7 @@ unfolding position
 after-head xs x v e = rw (e, position)
 
 -- A member's place is the one in the part where it is first found.
-pub position-below : {xs : List ℕ} (v : ℕ) → In v xs → position xs v < length xs
+pub position-below : (v : ℕ) {xs : List ℕ} → In v xs → position xs v < length xs
 position-below v (Memᴰ.head {x = x} {xs = xs} e) = rw (at_head xs x v (eq-eqb v x e)) (omega arith)
 position-below v (Memᴰ.tail {x = x} {xs = xs} h) = go (eqb v x) refl (position-below v h)
   where
@@ -64,7 +64,7 @@ position-below v (Memᴰ.tail {x = x} {xs = xs} h) = go (eqb v x) refl (position
     go true e k = rw (at_head xs x v e) (omega arith)
     go false e k = rw (after-head xs x v e) (omega arith)
 
-pub position-left : {xs : List ℕ} (ys : List ℕ) (v : ℕ) → In v xs → position (xs ++ ys) v ≡ position xs v
+pub position-left : (ys : List ℕ) (v : ℕ) {xs : List ℕ} → In v xs → position (xs ++ ys) v ≡ position xs v
 position-left ys v (Memᴰ.head {x = x} {xs = xs} e) = rw (at_head xs x v (eq-eqb v x e), at_head (xs ++ ys) x v (eq-eqb v x e))
 position-left ys v (Memᴰ.tail {x = x} {xs = xs} h) = go (eqb v x) refl (position-left ys v h)
   where
@@ -81,7 +81,7 @@ position-right (x ∷ xs) ys v n =
 pub position_first : (xs : List ℕ) (v : ℕ) → position (v ∷ xs) v ≡ 0
 position_first xs v = at_head xs v v (eq-eqb v v refl)
 
-pub at_position : {xs : List ℕ} (v : ℕ) → In v xs → get_or xs (position xs v) 0 ≡ v
+pub at_position : (v : ℕ) {xs : List ℕ} → In v xs → get_or xs (position xs v) 0 ≡ v
 at_position v (Memᴰ.head {x = x} {xs = xs} e) = rw (at_head xs x v (eq-eqb v x e)) (sym e)
 at_position v (Memᴰ.tail {x = x} {xs = xs} h) = go (eqb v x) refl (at_position v h)
   where
@@ -183,12 +183,13 @@ positions-numbered seen (v ∷ vs) = go (appears v vs seen) (positions-numbered 
         → numbered (length seen) (map (position (appearing seen (v ∷ vs))) (v ∷ vs)) ≡ true
     go (again h e) r s =
         let l : position (appearing seen vs) v < length seen = seen-position v vs h in
-        rw e
+        subst (λ xs. numbered (length seen) (map (position xs) (v ∷ vs)) ≡ true) (sym e)
         (numbered_more (length seen) (position (appearing seen vs) v) (length seen) (map (position (appearing seen vs)) vs) (omega arith) (max-eq_left l) r)
     go (first n e) r s =
         let l : position order v ≡ length seen = new-position v seen vs n in
         let m : max (length seen) (suc (position order v)) ≡ length (seen ++ (v ∷ [])) = omega (arith, length-append seen (v ∷ [])) in
-        rw e (numbered_more (length seen) (position order v) (length (seen ++ (v ∷ []))) (map (position order) vs) (omega arith) m s)
+        subst (λ xs. numbered (length seen) (map (position xs) (v ∷ vs)) ≡ true) (sym e)
+        (numbered_more (length seen) (position order v) (length (seen ++ (v ∷ []))) (map (position order) vs) (omega arith) m s)
 
 -- The numbers below n.
 abbrev pub up_to : ℕ → List ℕ

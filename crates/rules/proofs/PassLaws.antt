@@ -31,7 +31,7 @@ module _ (clauses : List Clause) (answer_room store_size : ℕ) where
     pub by_ask : (below left : ℕ) (at : Place) (l : Level) (q : Question) → next_of clauses answer_room store_size (suc below) at l left ≡ ask q
         → P (suc below) l → P below (start_level q.goal) × P (suc below) q.on_success × P (suc below) q.on_failure × P (suc below) q.on_unsettled
 
-  pub passes-keep : (P : ℕ → Level → Type 0) → Keeping P → {below₀ below : ℕ} {a₀ a : Account} {at₀ at : Place} {l₀ l : Level} → P below₀ l₀
+  pub passes-keep : (P : ℕ → Level → Type 0) → Keeping P → {below₀ : ℕ} {a₀ : Account} {at₀ : Place} {l₀ : Level} {below : ℕ} {a : Account} {at : Place} {l : Level} → P below₀ l₀
       → Passes clauses answer_room store_size below₀ at₀ l₀ a₀ below at l a → P below l
   passes-keep P k h starts = h
   passes-keep P k h (steps {below} {a} {at} {l} {l'} p e) = k.by_step below a.left at l l' e (passes-keep P k h p)

@@ -13,18 +13,18 @@ use lib.Dec.{leb, eqb}
 use borrow.Author.Tests.{eqb-true, eq-eqb, leb-true, le-leb}
 use Rattle.rules.specs.Terms.{Terms, count}
 use Rattle.rules.specs.Syntax.{Symbol, Literal, Clause, Deck, Goal, top_goal}
-use Rattle.rules.specs.Goals.{Mark, pending, floundered, undecided, oversized, deep, mark_number, Marked, marked, unmarked, goal_words, words_of, marked_words, write_goals, read_goals, renumber}
+use Rattle.rules.specs.Goals.{Mark, pending, floundered, undecided, oversized, deep, mark_number, Marked, marked, unmarked, goal_words, write_goals, read_goals, renumber}
 use Rattle.rules.specs.Unification.{Unification, fails, spent, solved, applys}
 use Rattle.rules.specs.Resolution.{clauses_about, resolved, resolvent, resolvents}
 use Rattle.rules.specs.WellFormed.{All, WfTerms, WfLiterals, WfGoal, WfMarked, WfDeck}
 use Rattle.rules.specs.Stored.{goal_fits, pending_fits, parked_fits, every, OpenGoals, as_open, read_open}
-use Rattle.rules.specs.Evaluation.{Level, with_pending, with_parked, with_answer, Place, zeroth, Question, question, step, ask, Outcome, evaluate}
+use Rattle.rules.specs.Evaluation.{Level, with_pending, with_parked, with_answer, Place, zeroth, derive, Question, question, step, ask, Outcome, evaluate}
 use Rattle.rules.proofs.ListLaws.{all_append, all_split, all_snoc, all_of, all-weaken, all_both, in_all, unmarked-all, length-unmarked}
 use Rattle.rules.proofs.TermLaws.{applys-count}
 use Rattle.rules.proofs.FormedLaws.{renames-count, Perhaps, collect-all}
-use Rattle.rules.proofs.NextLaws.{resolves, Ahead, lists, parks, replaces, inquires}
+use Rattle.rules.proofs.NextLaws.{Acts, resolves, Ahead, lists, parks, replaces, inquires}
 use Rattle.rules.proofs.EndLaws.{Keeps, runs-keep, evaluated}
-use Rattle.rules.proofs.GoalLaws.{goals-length, unmarked-words, marked_words-append, read-goals, GoalsReads, goals-reads}
+use Rattle.rules.proofs.GoalLaws.{read-goals, GoalsReads, goals-reads}
 use Rattle.rules.proofs.Keeps.{Parks, evaluate-shape}
 use Rattle.rules.proofs.GoalsKept.{evaluate-keeps}
 
@@ -222,6 +222,10 @@ module _ (terms : ℕ) where
     pub parked : All (λ m. Of m.goal) l.parked
     pub answers : All Of l.answers
 
+  derived-of : {clauses : List Clause} {below : ℕ} {g : Goal} {ds : List Goal} → Acts clauses below g (derive ds) → Of g → All Of ds
+  derived-of {clauses} {g = g} (resolves {before} {after} {p} {ts} q o) k =
+      all-weaken (λ d. count d.answers ≡ count g.answers) Of (λ d x. x ∙ k) (resolvents clauses g before p ts after) (resolvents-many clauses g before p ts after)
+
   step_of : {clauses : List Clause} {room store_size below left : ℕ} {at : Place} {l l' : Level} → Ahead clauses room store_size below at l left (step l') → LevelOf l → LevelOf l'
   unfolding with_answer with_parked with_pending
   step_of (lists {l} {g = g} e c a f s) h =
@@ -229,11 +233,9 @@ module _ (terms : ℕ) where
   step_of (parks {l = l} {g = g} {m = m} e c a s) h =
       let k = subst (All Of) e h.pending in
       record { pending = k.1; parked = all_snoc (λ m. Of m.goal) l.parked (marked m g) h.parked k.0; answers = h.answers }
-  step_of {clauses} (replaces {l = l} {g = g} {gs} e c (resolves {before} {after} {p} {ts} q o) s) h =
+  step_of (replaces {gs = gs} {ds = ds} e c a s) h =
       let k = subst (All Of) e h.pending in
-      let ds = resolvents clauses g before p ts after in
-      let same = all-weaken (λ d. count d.answers ≡ count g.answers) Of (λ d x. x ∙ k.0) ds (resolvents-many clauses g before p ts after) in
-      record { pending = all_append Of ds gs same k.1; parked = h.parked; answers = h.answers }
+      record { pending = all_append Of ds gs (derived-of a k.0) k.1; parked = h.parked; answers = h.answers }
 
   ask-of : {clauses : List Clause} {room store_size below left : ℕ} {at : Place} {l : Level} {q : Question} → Ahead clauses room store_size below at l left (ask q) → LevelOf l
       → LevelOf q.on_success × LevelOf q.on_failure × LevelOf q.on_unsettled

@@ -84,7 +84,7 @@ module _ (x : ℕ) (s : Term) (free : occ x s ≡ 0) (l r : Terms) where
       rest ν = sym (subs-eval (extend es ν) x s l) ∙ h.1 ν ∙ subs-eval (extend es ν) x s r
 
   sound-bound' : (o : Unification) → Sound (subs x s r) (subs x s l) o → Sound (cons s r) (cons (var x) l) (bound x s o)
-  sound-bound' o h = sound-same _ _ _ _ (swap (cons s r) (cons (var x) l)) (bound x s o) (sound-bound o (sound-same _ _ _ _ (swap (subs x s l) (subs x s r)) o h))
+  sound-bound' o h = sound-same (cons s r) (cons (var x) l) (cons (var x) l) (cons s r) (swap (cons s r) (cons (var x) l)) (bound x s o) (sound-bound o (sound-same (subs x s l) (subs x s r) (subs x s r) (subs x s l) (swap (subs x s l) (subs x s r)) o h))
 
 -- The same variable on both sides.
 same-variable : (x y : ℕ) → x ≡ y → (l r : Terms) → Same (cons (var x) l) (cons (var y) r) l r
@@ -149,18 +149,18 @@ by-case l r (no n) a b f g = g n
 module _ (next shorter : Terms → Terms → Unification) (next-sound : AllSound next) (shorter-sound : AllSound shorter) where
   front-sound : (a b : Term) (l r : Terms) → Sound (cons a l) (cons b r) (unify_front next shorter a b l r)
   unfolding unify_front
-  front-sound (var x) (var y) l r = by-case _ _ (ℕ_discrete x y) _ _
-      (λ e. sound-tick _ _ _ _ (same-variable x y e l r) (shorter l r) (shorter-sound l r))
+  front-sound (var x) (var y) l r = by-case (cons (var x) l) (cons (var y) r) (ℕ_discrete x y) _ _
+      (λ e. sound-tick (cons (var x) l) (cons (var y) r) l r (same-variable x y e l r) (shorter l r) (shorter-sound l r))
       (λ q. sound-bound x (var y) (occ-other x y q) l r (next (subs x (var y) l) (subs x (var y) r)) (next-sound _ _))
-  front-sound (var x) (app g vs) l r = by-case _ _ (ℕ_discrete (occs x vs) 0) _ _
+  front-sound (var x) (app g vs) l r = by-case (cons (var x) l) (cons (app g vs) r) (ℕ_discrete (occs x vs) 0) _ _
       (λ e. sound-bound x (app g vs) e l r (next (subs x (app g vs) l) (subs x (app g vs) r)) (next-sound _ _))
       (λ q. contained x g vs l r q)
-  front-sound (app f us) (var y) l r = by-case _ _ (ℕ_discrete (occs y us) 0) _ _
+  front-sound (app f us) (var y) l r = by-case (cons (app f us) l) (cons (var y) r) (ℕ_discrete (occs y us) 0) _ _
       (λ e. sound-bound' y (app f us) e r l (next (subs y (app f us) l) (subs y (app f us) r)) (next-sound _ _))
       (λ q. contained' y f us l r q)
-  front-sound (app f us) (app g vs) l r = by-case _ _ (ℕ_discrete f g) _ _
-      (λ e. by-case _ _ (ℕ_discrete (count us) (count vs)) _ _
-      (λ c. sound-tick _ _ _ _ (same_args f g e us vs l r c) (shorter (us +++ l) (vs +++ r)) (shorter-sound _ _))
+  front-sound (app f us) (app g vs) l r = by-case (cons (app f us) l) (cons (app g vs) r) (ℕ_discrete f g) _ _
+      (λ e. by-case (cons (app f us) l) (cons (app g vs) r) (ℕ_discrete (count us) (count vs)) _ _
+      (λ c. sound-tick (cons (app f us) l) (cons (app g vs) r) (us +++ l) (vs +++ r) (same_args f g e us vs l r c) (shorter (us +++ l) (vs +++ r)) (shorter-sound _ _))
       (λ q. uneven f g us vs l r q))
       (λ q. different f g us vs l r q)
 

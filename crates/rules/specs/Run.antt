@@ -1,5 +1,5 @@
 -- A run: what it returns and what it leaves in each slice (document 01, "The evaluation" and "Who can make the engine refuse").
-use Rattle.std.specs.Prelude.{ℕ, ◌+◌, ◌≡◌, ◌&&◌, List, [], ◌∷◌, ◌++◌, length, take, drop, leb}
+use Rattle.std.specs.Prelude.{ℕ, ◌≡◌, ◌&&◌, List, [], ◌∷◌, ◌++◌, length, take, drop, leb}
 use Rattle.rules.specs.Refusals.{bad_store, bad_scratch, bad_goals, Checked, refused, accepted, and_then as ◌>>=◌, require, obtain}
 use Rattle.rules.specs.Decks.{open_deck, read_query}
 use Rattle.rules.specs.Syntax.{Deck}
