@@ -1,6 +1,8 @@
 // Numbers at the borders of what the listing prints, one to a line.
 #![tactic(auto)]
 
+ghost use Rattle.std.specs.Prelude.{◌≤◌};
+
 use listing::numbers;
 use std::io;
 
@@ -17,7 +19,14 @@ fn main(rt: HostRuntime) -> io::Result<()> {
 
 fn line(rt: &impl Print, n: u32) -> io::Result<()> {
     let mut buffer = [0u8; 11];
-    let end = numbers::put_number(&mut buffer, 0, n);
+    let end = digits(&mut buffer, n);
     buffer[end] = 10;
     rt.write_all(&buffer[..end + 1])
+}
+
+// A number has at most ten digits, so that its line fits the buffer.
+fn digits(buffer: &mut [u8; 11], n: u32) -> usize
+    ensures { result ≤ 10 }
+{
+    numbers::put_number(buffer, 0, n)
 }
