@@ -62,3 +62,68 @@ pub fn keep(rt: &impl Files, path: &str, bytes: &[u8]) {
         Err(_) => {}
     }
 }
+
+#[cfg(test)]
+mod tests {
+    use super::{contents, count, read_full};
+    use std::io::{self, Error, ErrorKind, Read};
+
+    // A byte at a time, so many, and then a read that fails.
+    #[derive(Drop)]
+    struct Failing {
+        left: u8,
+    }
+
+    impl Read for Failing {
+        fn read(&mut self, buf: &mut [u8]) -> io::Result<usize> {
+            if self.left == 0 {
+                return Err(Error::from(ErrorKind::Other));
+            }
+            if buf.is_empty() {
+                return Ok(0);
+            }
+            buf[0] = self.left;
+            self.left -= 1;
+            Ok(1)
+        }
+    }
+
+    #[test]
+    fn until_full(rt: HostRuntime) {
+        let mut from: &[u8] = b"abcde";
+        let mut bytes = [0u8; 3];
+        let n = read_full(&mut from, &mut bytes);
+        assert!(rt; n == 3, "{n} bytes");
+        assert!(rt; bytes[2] == b'c', "{bytes:?}");
+        assert!(rt; from.len() == 2, "{from:?}");
+    }
+
+    #[test]
+    fn until_the_end(rt: HostRuntime) {
+        let mut from: &[u8] = b"ab";
+        let mut bytes = [7u8; 4];
+        let n = read_full(&mut from, &mut bytes);
+        assert!(rt; n == 2, "{n} bytes");
+        assert!(rt; bytes[2] == 7, "{bytes:?}");
+    }
+
+    // What was read before stands, and the failure is the end.
+    #[test]
+    fn until_a_failure(rt: HostRuntime) {
+        let mut bytes = [0u8; 4];
+        let n = contents(Ok(Failing { left: 3 }), &mut bytes);
+        assert!(rt; n == 3, "{n} bytes");
+        assert!(rt; bytes[0] == 3, "{bytes:?}");
+        assert!(rt; bytes[2] == 1, "{bytes:?}");
+    }
+
+    #[test]
+    fn no_file(rt: HostRuntime) {
+        let missing: io::Result<Failing> = Err(Error::from(ErrorKind::NotFound));
+        let mut bytes = [7u8; 4];
+        let n = contents(missing, &mut bytes);
+        assert!(rt; n == 0, "{n} bytes");
+        let most = count(9, &bytes);
+        assert!(rt; most == 4, "{most}");
+    }
+}
