@@ -1,13 +1,28 @@
 // The program: reads a text from standard input, and prints the words of its deck, low byte first, or a refusal.
 #![tactic(auto)]
 
-use std::io;
+ghost use Rattle.std.specs.Prelude.{ℕ, List, OnOk};
+ghost use Rattle.std.specs.Io.KnownBytes.{Appends, Consumes};
+ghost use Rattle.text_rules.specs.TextProgram.{read_program};
 
-// No more is read than it takes to tell that there is too much.
+use bytes_io::read_full;
+use std::io;
+use std::io::{Read, Write};
+
 fn main(rt: HostRuntime) -> io::Result<()> {
+    answer(&mut rt.stdin(), &mut io::writer(&rt))
+}
+
+// Reads a text from the input, and writes what is printed of it.
+// No more is read than it takes to tell that there is too much.
+fn answer<T: Read, W: Write>(input: &mut T, to: &mut W) -> io::Result<()>
+    ensures { OnOk result ((text : List ℕ)
+        × Consumes (T.remaining input.old) (T.remaining input.new) text
+        × Appends (W.contents to.old) (W.contents to.new) (read_program text)) }
+{
     let mut text = [0u8; 262145];
     let mut out = [0u8; 32768];
-    let t = bytes_io::read_full(&mut rt.stdin(), &mut text);
+    let t = read_full(input, &mut text);
     let n = text_program::read_printed(&text[..t], &mut out);
-    rt.write_all(&out[..n])
+    to.write_all(&out[..n])
 }
