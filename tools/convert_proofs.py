@@ -6,7 +6,7 @@ NAMES_JSON is what `rt check --generated DIR --old-names` writes (while the Proo
 """
 import json, os, re, sys
 
-IDENT = r"[A-Za-z_+µμλ◌ℕℤ][A-Za-z0-9_'+◌ℕℤµμ₀-₉-]*"
+IDENT = r"[^\W\d][^\s().,=:{}\[\];|]*"
 
 def norm(s):
     return re.sub(r"[^a-z0-9]", "", s.lower())
@@ -15,8 +15,9 @@ class Fn:
     def __init__(self, key, d):
         self.key, self.d = key, d
         self.places = {}
-        for (p, nn) in zip(d["places"], d["places_by_name"]):
-            self.places[p[0]] = dict(old=p[0], parent=p[1], step=p[2], callee=p[3], new=nn)
+        arms = d.get("arms") or [None] * len(d["places"])
+        for (p, nn, arm) in zip(d["places"], d["places_by_name"], arms):
+            self.places[p[0]] = dict(old=p[0], parent=p[1], step=p[2], callee=p[3], new=nn, arm=arm, fields=dict((norm(a), b) for a, b in (p[4] or [])))
         self.params = d.get("params", {})
         self.needs = d["needs"]
         self.asked = d["asked_at"]
@@ -77,8 +78,19 @@ def conv_paths(body, fn, start, root="c", goalname=None, inplace=False):
         step_old, step_new = p["step"]
         if p["parent"] is None:
             return root + "." + ".".join(rest)
+        if p["arm"]:
+            best = None
+            for new, old, pathto in p["arm"][2]:
+                k = len(pathto)
+                if norm(old) == norm(f) and [norm(x) for x in rest[1:1 + k]] == [norm(x) for x in pathto] and (best is None or k > len(best[1])):
+                    best = (new, pathto)
+            if best:
+                return root + "." + ".".join([p["arm"][0], best[0]] + rest[1 + len(best[1]):])
+            say(fn.key, goalname, "arm", ".".join(rest), "at", p["old"], json.dumps(p["arm"], ensure_ascii=False))
         if norm(f) == norm(step_old) or norm(f) == norm(step_new):
             rest = [step_new] + rest[1:]
+            if len(rest) > 1 and norm(rest[1]) in p["fields"]:
+                rest = [rest[0], p["fields"][norm(rest[1])]] + rest[2:]
         elif f in ("lifetimes", "type_inv", "auto", "args", "requires", "ranges", "well_formed"):
             pass
         else:
@@ -270,6 +282,28 @@ def one(pf, folder, fn, mod, crate, cycfn):
             out = list(com) + ["pub %s : goal.%s" % (new, new)] + unf + ["%s %s%s =%s" % (new, tparam, cvar, bodyt)]
             ans.append((new, "\n".join(out)))
             continue
+        mc = re.match(r"^(?:pub )?abbrev (?:pub )?(μ-%s|%s-(?:at|below|E)) :" % (IDENT, IDENT), sig)
+        if cycfn is not None and mc:
+            name = mc[1]
+            if name.startswith("μ-"):
+                fname = name[2:]
+                cl = "\n".join(l for l in lines[1:])
+                mm = re.match(r"^%s (\S+) (\S+) =(.*)$" % re.escape(name), cl, re.S)
+                if not mm: say(fn.key, "odd measure", cl[:100]); continue
+                a = mm[2]
+                ps = None
+                for callee, q in fn.params.items():
+                    if norm(callee.rsplit("::", 1)[1]) == norm(fname): ps = q; fname = callee.rsplit("::", 1)[1]
+                if ps is None and norm(fname) != norm(cycfn):
+                    continue
+                if ps is None:
+                    say(fn.key, "parameters of", fname, "not known"); continue
+                def pos(m):
+                    k = m[1].count(".1"); return "l." + (ps[k] if k < len(ps) else "ARG%d" % k)
+                bodyt = re.sub(r"(?<![\w.'])%s((?:\.1)*)\.0(?!\d)" % re.escape(a), pos, mm[3])
+                t = "\n".join(list(com) + ["abbrev pub decreases-%s : goal.decreases-%s" % (fname, fname), "decreases-%s l =%s" % (fname, bodyt)])
+                if t not in st["inv"] and t not in invs: invs.append(t)
+            continue
         mi = re.match(r"^(?:pub )?abbrev (?:pub )?(%s) : (?:%s\.)?((?:invariant|decreases)-\S+|Inv\S*|μ\S*)" % (IDENT, IDENT), sig)
         if mi:
             name = mi[1]; what = mi[2]
@@ -356,7 +390,7 @@ def spec_order(spec, cycfn, answers):
 def write():
     for pf, st in STATE.items():
         d = st["folder"]
-        drop = re.compile(r"\.(Statement|Tie|Reads|Kinds)(\.| |$)|use borrow\.Author\.Rules\.\{rules\}|\.Lts|borrow\.Fn|\.\{statement\}|^mod |^use [A-Z]\w*\.\*$")
+        drop = re.compile(r"\.(Tie|Reads|Kinds|Lts[\w-]*) as |\.Tie\.\{|use borrow\.Author\.Rules\.\{rules\}|borrow\.Fn\.(Kinds|PlainCycle|Cycle)|\.\{statement\}|^mod |^use [A-Z]\w*\.\*$")
         keep = [u for u in st["uses"] if not drop.search(u.split("\n")[0])]
         M = "Rattle.%s.proofs.%s" % (st["crate"], st["mod"])
         head = "\n".join(st["head"])
@@ -368,8 +402,12 @@ def write():
         if st["ans"] or st["h"]:
             t = (head + "\n" if head else "") + "\n".join(keep) + "\nuse borrow.Author.Rules.{rules}\n"
             if st["hinv"]: t += "use %s.Invariants.{%s}\n" % (M, ", ".join(n for n, _ in st["hinv"]))
-            t += "use %s.Goals as goal\n\n" % M
-            t += "\n\n".join(st["h"] + [a for _, a in st["ans"]]) + "\n"
+            t += "use %s.Goals as goal\n" % M
+            body = "\n\n".join(st["h"] + [a for _, a in st["ans"]]) + "\n"
+            places = set(re.findall(r"goal\.at\.\S+ \S+\)\.([A-Z][\w'-]*)", body)) | set(re.findall(r"\(c : goal\.([^)\s]+)\)", body))
+            if places: t += "use %s.Goals.{%s}\n" % (M, ", ".join(sorted(places)))
+            t += "\n"
+            t += body
             open(os.path.join(d, "Answers.antt"), "w").write(t)
         os.remove(pf)
 
