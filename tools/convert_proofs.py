@@ -30,7 +30,7 @@ def say(*a):
     warn.append(" ".join(str(x) for x in a))
 
 def blocks(text):
-    return [b for b in re.split(r"\n[ \t]*\n", text) if b.strip()]
+    return [b.strip("\n") for b in re.split(r"\n[ \t]*\n", text) if b.strip()]
 
 def find_place(fn, name):
     """an old place name as a proof file has it: tie.After-word2 -> place"""
@@ -77,6 +77,7 @@ def conv_paths(body, fn, start, root="c", goalname=None, inplace=False):
         f = rest[0]
         step_old, step_new = p["step"]
         if p["parent"] is None:
+            if f == "requires" and fn.path in SRC: rest = ["requires"] + clause(SRC[fn.path][1], rest[1:])
             return root + "." + ".".join(rest)
         if p["arm"]:
             best = None
@@ -105,6 +106,8 @@ def conv_paths(body, fn, start, root="c", goalname=None, inplace=False):
             while j < len(rest) and rest[j] == "1": k += 1; j += 1
             if j < len(rest) and rest[j] == "0" and k < len(fn.params[p["callee"]]):
                 rest = rest[:2] + [fn.params[p["callee"]][k]] + rest[j+1:]
+        if len(rest) > 1 and rest[1] == "ensures" and p["callee"] in SRC:
+            rest = rest[:2] + clause(SRC[p["callee"]][2], rest[2:])
         return root + "." + ".".join(rest)
     body = re.sub(r"(?<![A-Za-z0-9_'.◌₀-₉-])(%s)((?:\.[A-Za-z0-9_'◌₀-₉-]+)+)" % IDENT, path, body)
     # bare aliases and bare c as an argument
@@ -196,6 +199,7 @@ def main():
     crate_dir, names = sys.argv[1], json.load(open(sys.argv[2]))
     only = sys.argv[sys.argv.index("--only") + 1] if "--only" in sys.argv else None
     crate = os.path.basename(os.path.abspath(crate_dir))
+    sources(os.path.dirname(os.path.abspath(crate_dir)))
     for key, d in names.items():
         if not key.startswith("Rattle-%s-proofs." % crate) or ".Lts" not in key: continue
         tail = key[len("Rattle-%s-proofs." % crate):]
@@ -207,6 +211,7 @@ def main():
         if only and only not in mod: continue
         cyc = rel[-1].startswith("+")
         fn = Fn(tail, d)
+        fn.path = "::".join([crate] + [r for r in rel if not r.startswith("+")]) if not cyc else "::".join([crate] + rel[:-1] + [lts.lstrip("-")])
         try:
             one(pf, folder, fn, mod, crate, lts.lstrip("-") if cyc else None)
         except Exception as e:
@@ -215,6 +220,51 @@ def main():
     print("\n".join(warn))
 
 STATE = {}
+SRC = {}
+
+def sources(crates):
+    """function path (crate::mod::f) -> parameters, names of requires, names of ensures"""
+    for crate in sorted(os.listdir(crates)):
+        top = os.path.join(crates, crate, "src")
+        for folder, _, files in os.walk(top):
+            for f in files:
+                if not f.endswith(".rt"): continue
+                rel = os.path.relpath(os.path.join(folder, f), top)[:-3].split(os.sep)
+                if rel[-1] in ("lib", "main", "mod"): rel = rel[:-1]
+                text = re.sub(r"//.*", "", open(os.path.join(folder, f), encoding="utf-8").read())
+                for m in re.finditer(r"\bfn (\w+)\(", text):
+                    i = m.end(); depth = 1
+                    while depth: depth += (text[i] == "(") - (text[i] == ")"); i += 1
+                    params = [x.strip().split(":")[0].strip().replace("mut ", "") for x in split_top(text[m.end():i - 1]) if x.strip()]
+                    e = re.compile(r"^\s*\{|;|\{\s*$", re.M)
+                    j = i; req, ens = [], []
+                    c = re.compile(r"\s*(?:->\s*[^{;]*?)?\s*\b(requires|ensures)\*?\s*(\w+)?\s*\{")
+                    while True:
+                        mm = c.match(text, j)
+                        if not mm: break
+                        k = mm.end(); depth = 1
+                        while depth: depth += (text[k] == "{") - (text[k] == "}"); k += 1
+                        (req if mm[1] == "requires" else ens).append(mm[2])
+                        j = k
+                    SRC["::".join([crate] + rel + [m[1]])] = (params, req, ens)
+
+def split_top(s):
+    out, depth, cur = [], 0, ""
+    for ch in s:
+        depth += (ch in "([<{") - (ch in ")]>}")
+        if ch == "," and depth == 0: out.append(cur); cur = ""
+        else: cur += ch
+    return out + [cur]
+
+def clause(names, rest):
+    """positions of a pair of clauses to names: rest begins behind .requires or .ensures"""
+    if len(names) < 2 or not all(names): return rest
+    k, j = 0, 0
+    while k < len(names) - 1:
+        if j < len(rest) and rest[j] == "0": return [names[k]] + rest[j + 1:]
+        if j < len(rest) and rest[j] == "1": k += 1; j += 1
+        else: return rest
+    return [names[k]] + rest[j:]
 
 def one(pf, folder, fn, mod, crate, cycfn):
     head, uses, rest, spec = convert(pf, fn, None, None, None, crate)
@@ -224,6 +274,8 @@ def one(pf, folder, fn, mod, crate, cycfn):
     tparam = "t " if cycfn is not None else ""
     # order of goals: from the type of each answer  X : tie.Need-Y
     need_re = re.compile(r"^(?:pub )?(%s) : (?:%s\.)?Need-(\S+)(.*)$" % (IDENT, IDENT))
+    if cycfn is not None: need_re = re.compile(r"^(?:pub )?(%s) : (?:%s-lts\.)Need-(\S+)(.*)$" % (IDENT, "|".join({cycfn, cycfn.replace("_", "-")})))
+    other_re = re.compile(r"^(?:pub )?(%s) : (?:%s\.)?Need-(\S+)(.*)$" % (IDENT, IDENT))
     decls = []
     for b in rest:
         com, lines = split_decl(b)
@@ -235,7 +287,8 @@ def one(pf, folder, fn, mod, crate, cycfn):
         m = need_re.match(lines[0])
         if m: answers[m[1]] = (m[2], com, lines)
     order = spec_order(spec, cycfn, answers)
-    needs = fn.needs
+    stem = fn.d.get("stem") or ""
+    needs = [(o, n) for o, n in fn.needs]
     mapping = {}
     if order is not None and len(order) == len(needs):
         for a, (o, n), at in zip(order, needs, fn.asked):
@@ -279,9 +332,13 @@ def one(pf, folder, fn, mod, crate, cycfn):
             if len(args) > 1 and re.search(r"(?<![\w.])%s(?![\w])" % re.escape(args[1]), bodyt):
                 say(fn.key, name, "uses", args[1])
             bodyt = conv_paths(bodyt, fn, place, cvar, new)
-            out = list(com) + ["pub %s : goal.%s" % (new, new)] + unf + ["%s %s%s =%s" % (new, tparam, cvar, bodyt)]
-            ans.append((new, "\n".join(out)))
+            asked = fn.d["asked"].get(dict((n, o) for o, n in needs).get(new)) or []
+            if len(asked) > 1: bodyt = as_record(bodyt, asked, fn, new)
+            full = stem + new
+            out = list(com) + ["pub %s : goal.%s" % (full, full)] + unf + ["%s %s%s =%s" % (full, tparam, cvar, bodyt.replace("goal.at." + new + " ", "goal.at." + full + " " + tparam) if True else bodyt)]
+            ans.append((full, "\n".join(out)))
             continue
+        if other_re.match(sig): continue
         mc = re.match(r"^(?:pub )?abbrev (?:pub )?(μ-%s|%s-(?:at|below|E)) :" % (IDENT, IDENT), sig)
         if cycfn is not None and mc:
             name = mc[1]
@@ -292,10 +349,8 @@ def one(pf, folder, fn, mod, crate, cycfn):
                 if not mm: say(fn.key, "odd measure", cl[:100]); continue
                 a = mm[2]
                 ps = None
-                for callee, q in fn.params.items():
-                    if norm(callee.rsplit("::", 1)[1]) == norm(fname): ps = q; fname = callee.rsplit("::", 1)[1]
-                if ps is None and norm(fname) != norm(cycfn):
-                    continue
+                for callee, q in SRC.items():
+                    if norm(callee.rsplit("::", 1)[1]) == norm(fname) and callee.rsplit("::", 1)[0] == fn.path.rsplit("::", 1)[0]: ps = q[0]; fname = callee.rsplit("::", 1)[1]
                 if ps is None:
                     say(fn.key, "parameters of", fname, "not known"); continue
                 def pos(m):
@@ -386,6 +441,44 @@ def spec_order(spec, cycfn, answers):
         if m[0].startswith("(λ"): toks.append(None)
         elif n in answers: toks.append(n)
     return toks
+
+def parts(s):
+    """the parts of a tuple, or None"""
+    s = s.strip()
+    if not (s.startswith("(") and s.endswith(")")): return None
+    depth = 0; out = []; cur = ""
+    for i, ch in enumerate(s):
+        if ch in "([{": depth += 1
+        if ch in ")]}": depth -= 1
+        if depth == 0 and i < len(s) - 1: return None
+        if depth == 1 and ch == "(" and i == 0: continue
+        if depth == 1 and ch == ",": out.append(cur); cur = ""; continue
+        if i < len(s) - 1: cur += ch
+    if cur.strip(): out.append(cur)
+    return out if len(out) > 1 else None
+
+def last_let(body):
+    """splits a body into its lets and its last expression (by the last ` in` at depth 0)"""
+    depth, cut = 0, 0
+    for m in re.finditer(r"[()\[\]{}]|(?<![\w.])in(?![\w.-])", body):
+        if m[0] in "([{": depth += 1
+        elif m[0] in ")]}": depth -= 1
+        elif depth == 0: cut = m.end()
+    return body[:cut], body[cut:]
+
+def as_record(body, names, fn, new):
+    lets, last = last_let(body)
+    if last.strip() == "search rules" or last.strip().startswith("record"): return body
+    xs = []; rest = last
+    for k in range(len(names) - 1):
+        ps = parts(rest)
+        if ps is None or len(ps) < 2:
+            say(fn.key, new, "not a tuple of", names); return body
+        xs.append(ps[0].strip())
+        rest = "(" + ",".join(ps[1:]) + ")" if len(ps) > 2 else ps[1].strip()
+    xs.append(rest.strip())
+    ind = "\n    "
+    return lets + ind + "record {" + "".join(ind + "  %s = %s;" % (n, x) for n, x in zip(names, xs)) + ind + "}"
 
 def write():
     for pf, st in STATE.items():
