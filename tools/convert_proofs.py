@@ -40,86 +40,87 @@ def find_place(fn, name):
         if norm(p["old"]) == norm(name): return p
     return None
 
+def chain_of(fn, p):
+    out = []
+    while p is not None:
+        out.append(p)
+        p = fn.places.get(p["parent"]) if p["parent"] else None
+    return out
+
+AT_START = {"args", "requires", "ranges", "wellformed", "good", "lifetimes", "typeinv"}
+
 def conv_paths(body, fn, start, root="c", goalname=None, inplace=False):
-    """Rewrites paths through .before in body, where root is at place start. Follows let-aliases."""
-    alias = {root: start}
-    # let-aliases to places
-    pat = re.compile(r"let (%s) = (%s)((?:\.before)+) in[ \n]*" % (IDENT, IDENT))
+    """Rewrites paths through .before in body, where root is at place start. Follows let-aliases. A step is found by its name."""
+    alias = {root: 0}
+    line = chain_of(fn, start)
+    pat = re.compile(r"let (%s) = (%s)((?:\.before)*) in(?![\w-])[ \n]*" % (IDENT, IDENT))
     while True:
         m = None
         for mm in pat.finditer(body):
             if mm[2] in alias: m = mm; break
         if not m: break
-        p = alias[m[2]]
-        for _ in range(m[3].count(".before")):
-            p = fn.places.get(p["parent"]) if p else None
-        if p is None:
-            say(fn.key, goalname, "alias past the start:", m[0]); break
-        alias[m[1]] = p
-        # drop the let; keep indentation of what follows
+        alias[m[1]] = alias[m[2]] + m[3].count(".before")
         body = body[:m.start()] + body[m.end():]
+    def at(k):
+        return line[min(k, len(line) - 1)]
     def path(m):
         who, chain = m[1], m[2]
         if who not in alias: return m[0]
         parts = chain.split(".")[1:]
-        p = alias[who]
         i = 0
-        while i < len(parts) and parts[i] == "before":
-            q = fn.places.get(p["parent"]) if p["parent"] else None
-            if q is None:
-                say(fn.key, goalname, "past the start:", m[0]); return m[0]
-            p = q; i += 1
+        while i < len(parts) and parts[i] == "before": i += 1
+        k = alias[who] + i
         rest = parts[i:]
         if not rest:
-            if inplace and i:
-                say(fn.key, goalname, "bare place in a helper:", m[0])
-            return "(goal.at.%s %s).%s" % (goalname, root, p["new"])
+            if inplace and i: say(fn.key, goalname, "bare place in a helper:", m[0])
+            return "(goal.at.%s %s).%s" % (goalname, root, at(k)["new"])
         f = rest[0]
-        step_old, step_new = p["step"]
-        if p["parent"] is None:
-            if f == "requires" and fn.path in SRC: rest = ["requires"] + clause(SRC[fn.path][1], rest[1:])
+        if norm(f) in AT_START:
+            if norm(f) in ("good", "wellformed"): rest = ["well_formed"] + rest[1:]
+            if f == "requires":
+                r = rest[1:]
+                if fn.cycle:
+                    if r and r[0] == "1": r = r[1:]
+                    elif r and r[0] == "0": return root + ".MEASURE." + ".".join(r[1:])
+                rest = ["requires"] + (clause(SRC[fn.path][1], r) if fn.path in SRC else r)
             return root + "." + ".".join(rest)
+        found = [j for j, p in enumerate(line) if p["parent"] is not None and norm(f) in (norm(p["step"][0]), norm(p["step"][1]))]
+        if not found:
+            found = [j for j, p in enumerate(line) if p["arm"] and any(norm(o) == norm(f) for _, o, _ in p["arm"][2])]
+        if not found:
+            say(fn.key, goalname, "no step", f, "in", m[0], "; steps:", " ".join(p["step"][0] for p in line))
+            return m[0]
+        j = min(found, key=lambda j: abs(j - k))
+        p = line[j]
         if p["arm"]:
+            # the arm as the deepest place of it on this line has it
+            arms = [q for q in line[:j + 1] if q["arm"] and q["arm"][0] == p["arm"][0]]
             best = None
-            for new, old, pathto in p["arm"][2]:
-                k = len(pathto)
-                if norm(old) == norm(f) and [norm(x) for x in rest[1:1 + k]] == [norm(x) for x in pathto] and (best is None or k > len(best[1])):
-                    best = (new, pathto)
+            for q in arms:
+                for nw, old, pathto in q["arm"][2]:
+                    n = len(pathto)
+                    if norm(old) == norm(f) and [norm(x) for x in rest[1:1 + n]] == [norm(x) for x in pathto] and (best is None or n > len(best[1])):
+                        best = (nw, pathto)
             if best:
                 return root + "." + ".".join([p["arm"][0], best[0]] + rest[1 + len(best[1]):])
             say(fn.key, goalname, "arm", ".".join(rest), "at", p["old"], json.dumps(p["arm"], ensure_ascii=False))
-        if norm(f) == norm(step_old) or norm(f) == norm(step_new):
-            rest = [step_new] + rest[1:]
-            if len(rest) > 1 and norm(rest[1]) in p["fields"]:
-                rest = [rest[0], p["fields"][norm(rest[1])]] + rest[2:]
-        elif f in ("lifetimes", "type_inv", "auto", "args", "requires", "ranges", "well_formed"):
-            pass
-        else:
-            if step_new and norm(f).rstrip("0123456789") == norm(step_old).rstrip("0123456789"):
-                say(fn.key, goalname, "step by likeness:", f, "->", step_new)
-                rest = [step_new] + rest[1:]
-            else:
-                say(fn.key, goalname, "unknown field", f, "at", p["old"], p["step"])
+        rest = [p["step"][1]] + rest[1:]
+        if len(rest) > 1 and norm(rest[1]) in p["fields"]:
+            rest = [rest[0], p["fields"][norm(rest[1])]] + rest[2:]
         # positional parameters of a call
-        if len(rest) > 1 and rest[1] in ("new", "auto", "exit") and p["callee"] and p["callee"] in fn.params:
-            k, j = 0, 2
-            while j < len(rest) and rest[j] == "1": k += 1; j += 1
-            if j < len(rest) and rest[j] == "0" and k < len(fn.params[p["callee"]]):
-                rest = rest[:2] + [fn.params[p["callee"]][k]] + rest[j+1:]
+        if len(rest) > 1 and rest[1] in ("new", "auto", "exit") and p["callee"]:
+            ps = SRC[p["callee"]][0] if p["callee"] in SRC else fn.params.get(p["callee"], [])
+            n, q = 0, 2
+            while q < len(rest) and rest[q] == "1": n += 1; q += 1
+            if q < len(rest) and rest[q] == "0" and n < len(ps):
+                rest = rest[:2] + [ps[n]] + rest[q + 1:]
         if len(rest) > 1 and rest[1] == "ensures" and p["callee"] in SRC:
             rest = rest[:2] + clause(SRC[p["callee"]][2], rest[2:])
         return root + "." + ".".join(rest)
     body = re.sub(r"(?<![A-Za-z0-9_'.◌₀-₉-])(%s)((?:\.[A-Za-z0-9_'◌₀-₉-]+)+)" % IDENT, path, body)
-    # bare aliases and bare c as an argument
     def bare(m):
-        who = m[1]
-        if who == root:
-            return m[0]
-        p = alias[who]
-        if inplace:
-            say(fn.key, goalname, "bare alias in a helper:", who)
-            return m[0]
-        return "(goal.at.%s %s).%s" % (goalname, root, p["new"])
+        if inplace: say(fn.key, goalname, "bare alias in a helper:", m[1]); return m[0]
+        return "(goal.at.%s %s).%s" % (goalname, root, at(alias[m[1]])["new"])
     names = [a for a in alias if a != root]
     if names:
         body = re.sub(r"(?<![A-Za-z0-9_'.◌₀-₉-])(%s)(?![A-Za-z0-9_'.◌₀-₉-])" % "|".join(map(re.escape, names)), bare, body)
@@ -211,6 +212,7 @@ def main():
         if only and only not in mod: continue
         cyc = rel[-1].startswith("+")
         fn = Fn(tail, d)
+        fn.cycle = cyc
         fn.path = "::".join([crate] + [r for r in rel if not r.startswith("+")]) if not cyc else "::".join([crate] + rel[:-1] + [lts.lstrip("-")])
         try:
             one(pf, folder, fn, mod, crate, lts.lstrip("-") if cyc else None)
