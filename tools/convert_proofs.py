@@ -81,7 +81,7 @@ def conv_paths(body, fn, start, root="c", goalname=None, inplace=False):
                 r = rest[1:]
                 if fn.cycle:
                     if r and r[0] == "1": r = r[1:]
-                    elif r and r[0] == "0": return root + ".MEASURE." + ".".join(r[1:])
+                    elif r and r[0] == "0": return ".".join([root, "decreases"] + r[1:])
                 rest = ["requires"] + (clause(SRC[fn.path][1], r) if fn.path in SRC else r)
             return root + "." + ".".join(rest)
         found = [j for j, p in enumerate(line) if p["parent"] is not None and norm(f) in (norm(p["step"][0]), norm(p["step"][1]))]
@@ -270,13 +270,23 @@ def clause(names, rest):
 
 def one(pf, folder, fn, mod, crate, cycfn):
     head, uses, rest, spec = convert(pf, fn, None, None, None, crate)
+    names = {cycfn} if cycfn is not None else set()
+    if cycfn is not None:
+        for u in uses:
+            m = re.search(r"\.Lts-%s as (\S+)-lts" % re.escape(cycfn), u)
+            if m: names.add(m[1])
+        names.add(cycfn.replace("_", "-"))
+    members = {}
+    for u in uses:
+        m = re.search(r"\.Lts-(\S+) as (\S+)-lts", u)
+        if m: members[m[2]] = m[1]
     key = pf
     st = STATE.setdefault(key, dict(ans=[], inv=[], done=False))
     # the list of goals in the order of spec's arguments
     tparam = "t " if cycfn is not None else ""
     # order of goals: from the type of each answer  X : tie.Need-Y
     need_re = re.compile(r"^(?:pub )?(%s) : (?:%s\.)?Need-(\S+)(.*)$" % (IDENT, IDENT))
-    if cycfn is not None: need_re = re.compile(r"^(?:pub )?(%s) : (?:%s-lts\.)Need-(\S+)(.*)$" % (IDENT, "|".join({cycfn, cycfn.replace("_", "-")})))
+    if cycfn is not None: need_re = re.compile(r"^(?:pub )?(%s) : (?:%s-lts\.)Need-(\S+)(.*)$" % (IDENT, "|".join(map(re.escape, names))))
     other_re = re.compile(r"^(?:pub )?(%s) : (?:%s\.)?Need-(\S+)(.*)$" % (IDENT, IDENT))
     decls = []
     for b in rest:
@@ -288,7 +298,9 @@ def one(pf, folder, fn, mod, crate, cycfn):
     for com, lines in decls:
         m = need_re.match(lines[0])
         if m: answers[m[1]] = (m[2], com, lines)
-    order = spec_order(spec, cycfn, answers)
+    order = None
+    for n in (names or {None}):
+        order = order or spec_order(spec, n, answers)
     stem = fn.d.get("stem") or ""
     needs = [(o, n) for o, n in fn.needs]
     mapping = {}
@@ -341,7 +353,7 @@ def one(pf, folder, fn, mod, crate, cycfn):
             ans.append((full, "\n".join(out)))
             continue
         if other_re.match(sig): continue
-        mc = re.match(r"^(?:pub )?abbrev (?:pub )?(μ-%s|%s-(?:at|below|E)) :" % (IDENT, IDENT), sig)
+        mc = re.match(r"^(?:pub )?abbrev (?:pub )?(μ-%s|%s[-_](?:at|below|E)) :" % (IDENT, IDENT), sig)
         if cycfn is not None and mc:
             name = mc[1]
             if name.startswith("μ-"):
@@ -351,6 +363,7 @@ def one(pf, folder, fn, mod, crate, cycfn):
                 if not mm: say(fn.key, "odd measure", cl[:100]); continue
                 a = mm[2]
                 ps = None
+                fname = members.get(fname, fname)
                 for callee, q in SRC.items():
                     if norm(callee.rsplit("::", 1)[1]) == norm(fname) and callee.rsplit("::", 1)[0] == fn.path.rsplit("::", 1)[0]: ps = q[0]; fname = callee.rsplit("::", 1)[1]
                 if ps is None:
@@ -390,9 +403,13 @@ def one(pf, folder, fn, mod, crate, cycfn):
     hout = []
     invtext = "\n".join(invs)
     hinv = []
+    for com, lines in reversed(helpers):
+        s = "\n".join(lines)
+        m = re.match(r"^(?:pub )?(?:abbrev |record |data |unfoldable )?(?:pub )?(?:record |data )?(%s)" % IDENT, lines[0])
+        if m and re.search(r"(?<![\w.'-])%s(?![\w'-])" % re.escape(m[1]), invtext): invtext += "\n" + s
     for com, lines in helpers:
         sig = "\n".join(lines)
-        m = re.match(r"^(?:pub )?(?:abbrev )?(?:pub )?(%s)\b" % IDENT, lines[0])
+        m = re.match(r"^(?:pub )?(?:abbrev |record |data |unfoldable |ruleset )?(?:pub )?(?:record |data )?(%s)" % IDENT, lines[0])
         name = m[1] if m else "?"
         mp = re.search(r"\((%s) : (%s)\.((?:After|In|At|Else|Then|Start|Over|Untold|Left|Told)[^\s)]*)[^)]*\)" % (IDENT, IDENT), sig)
         # with nested parentheses in the type of c
@@ -414,6 +431,7 @@ def one(pf, folder, fn, mod, crate, cycfn):
             if re.search(r"\b(tie|%s-lts)\." % (cycfn or "zz"), sig):
                 say(fn.key, "helper", name, "cites the walk")
             t = "\n".join(com + [sig])
+            if cycfn is not None and re.match(r"^\(?[\w-]+-lts", sig): continue
             if re.search(r"(?<![\w.'-])%s(?![\w'-])" % re.escape(name), invtext): hinv.append((name, t))
             else: hout.append(t)
     st["head"] = head; st["uses"] = uses
@@ -482,6 +500,10 @@ def as_record(body, names, fn, new):
     ind = "\n    "
     return lets + ind + "record {" + "".join(ind + "  %s = %s;" % (n, x) for n, x in zip(names, xs)) + ind + "}"
 
+def publish(h):
+    m = re.match(r"^((?:--.*\n)*)(?:pub )?(abbrev |unfoldable )?(?:pub )?", h)
+    return m[1] + (m[2] or "") + "pub " + h[m.end():]
+
 def write():
     for pf, st in STATE.items():
         d = st["folder"]
@@ -491,7 +513,7 @@ def write():
         head = "\n".join(st["head"])
         if st["inv"] or st["hinv"]:
             t = (head + "\n" if head else "") + "\n".join(keep) + "\nuse %s.Given as goal\n\n" % M
-            for n, h in st["hinv"]: t += re.sub(r"^((?:--.*\n)*)(?:pub )?(abbrev |unfoldable )?(?:pub )?", lambda m: m[1] + ((m[2] or "") + "pub " if m[2] else "pub "), h, 1) + "\n\n"
+            for n, h in st["hinv"]: t += publish(h) + "\n\n"
             t += "\n\n".join(st["inv"]) + "\n"
             open(os.path.join(d, "Invariants.antt"), "w").write(t)
         if st["ans"] or st["h"]:
