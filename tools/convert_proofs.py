@@ -61,6 +61,20 @@ def conv_paths(body, fn, start, root="c", goalname=None, inplace=False):
         if not m: break
         alias[m[1]] = alias[m[2]] + m[3].count(".before")
         body = body[:m.start()] + body[m.end():]
+    # names of clauses: written out, so that each use says which clause it is
+    pat2 = re.compile(r"let (%s) = (%s(?:\.[A-Za-z0-9_'-]+)*\.(?:requires|ensures)(?:\.[0-9]+)*) in(?![\w-])[ \n]*" % (IDENT, IDENT))
+    pos = 0
+    while True:
+        m = pat2.search(body, pos)
+        if not m: break
+        if m[2].split(".")[0] not in alias: pos = m.end(); continue
+        restb = body[m.end():]
+        use = r"(?<![A-Za-z0-9_'.◌₀-₉-])%s(?=\.[0-9a-z])" % re.escape(m[1])
+        restb = re.sub(use, lambda _: m[2], restb)
+        if re.search(r"(?<![A-Za-z0-9_'.◌₀-₉-])%s(?![A-Za-z0-9_'◌₀-₉-])" % re.escape(m[1]), restb):
+            body = body[:m.end()] + restb; pos = m.end()
+        else:
+            body = body[:m.start()] + restb; pos = m.start()
     def at(k):
         return line[min(k, len(line) - 1)]
     def path(m):
@@ -502,7 +516,9 @@ def as_record(body, names, fn, new):
 
 def publish(h):
     m = re.match(r"^((?:--.*\n)*)(?:pub )?(abbrev |unfoldable )?(?:pub )?", h)
-    return m[1] + (m[2] or "") + "pub " + h[m.end():]
+    out = m[1] + (m[2] or "") + "pub " + h[m.end():]
+    if re.search(r"(?m)^pub record ", out): out = re.sub(r"(?m)^  (?!pub )([\w' -]+ :)", r"  pub \1", out)
+    return out
 
 def write():
     for pf, st in STATE.items():
