@@ -300,7 +300,7 @@ def one(pf, folder, fn, mod, crate, cycfn):
     tparam = "t " if cycfn is not None else ""
     # order of goals: from the type of each answer  X : tie.Need-Y
     need_re = re.compile(r"^(?:pub )?(%s) : (?:%s\.)?Need-(\S+)(.*)$" % (IDENT, IDENT))
-    if cycfn is not None: need_re = re.compile(r"^(?:pub )?(%s) : (?:%s-lts\.)Need-(\S+)(.*)$" % (IDENT, "|".join(map(re.escape, names))))
+    if cycfn is not None: need_re = re.compile(r"^(?:pub )?(%s) : (?:(?:%s)-lts\.)Need-(\S+)(.*)$" % (IDENT, "|".join(map(re.escape, names))))
     other_re = re.compile(r"^(?:pub )?(%s) : (?:%s\.)?Need-(\S+)(.*)$" % (IDENT, IDENT))
     decls = []
     for b in rest:
