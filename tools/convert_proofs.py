@@ -357,13 +357,12 @@ def one(pf, folder, fn, mod, crate, cycfn):
             bodyt = mm[2] + ("\n" + "\n".join(clause[1:]) if clause[1:] else "")
             if bodyt.strip() == "search rules": continue
             cvar = args[0] if args else "c"
-            if len(args) > 1 and re.search(r"(?<![\w.])%s(?![\w])" % re.escape(args[1]), bodyt):
-                say(fn.key, name, "uses", args[1])
+            more = "".join(" " + a for a in args[1:] if a != "κs")
             bodyt = conv_paths(bodyt, fn, place, cvar, new)
             asked = fn.d["asked"].get(dict((n, o) for o, n in needs).get(new)) or []
             if len(asked) > 1: bodyt = as_record(bodyt, asked, fn, new)
             full = stem + new
-            out = list(com) + ["pub %s : goal.%s" % (full, full)] + unf + ["%s %s%s =%s" % (full, tparam, cvar, bodyt.replace("goal.at." + new + " ", "goal.at." + full + " " + tparam) if True else bodyt)]
+            out = list(com) + ["pub %s : goal.%s" % (full, full)] + unf + ["%s %s%s%s =%s" % (full, tparam, cvar, more, bodyt.replace("goal.at." + new + " ", "goal.at." + full + " " + tparam) if True else bodyt)]
             ans.append((full, "\n".join(out)))
             continue
         if other_re.match(sig): continue
@@ -414,7 +413,7 @@ def one(pf, folder, fn, mod, crate, cycfn):
             continue
         helpers.append((com, lines))
     # helpers
-    hout = []
+    hout = []; placed = []
     invtext = "\n".join(invs)
     hinv = []
     for com, lines in reversed(helpers):
@@ -438,8 +437,13 @@ def one(pf, folder, fn, mod, crate, cycfn):
             for j in range(i, len(sig)):
                 depth += (sig[j] == "(") - (sig[j] == ")")
                 if depth == 0: break
-            sig = sig[:i] + "(c : goal.%s)" % p["new"] + sig[j+1:]
+            if cycfn is not None:
+                sig = sig[:i] + "(t : ℕ) (c : goal.%s t)" % p["new"] + sig[j+1:]
+                sig = re.sub(r"(?m)^%s c\b" % re.escape(name), "%s t c" % name, sig)
+            else:
+                sig = sig[:i] + "(c : goal.%s)" % p["new"] + sig[j+1:]
             sig = conv_paths(sig, fn, p, "c", "?", inplace=True)
+            placed.append(name)
             hout.append("\n".join(com + [sig]))
         else:
             if re.search(r"\b(tie|%s-lts)\." % (cycfn or "zz"), sig):
@@ -448,6 +452,23 @@ def one(pf, folder, fn, mod, crate, cycfn):
             if cycfn is not None and re.match(r"^\(?[\w-]+-lts", sig): continue
             if re.search(r"(?<![\w.'-])%s(?![\w'-])" % re.escape(name), invtext): hinv.append((name, t))
             else: hout.append(t)
+    if cycfn is not None and placed:
+        call = re.compile(r"(?<![\w.'-])(%s) (c(?![\w.'-])|\(goal\.at)" % "|".join(map(re.escape, placed)))
+        hout = [call.sub(r"\1 t \2", h) for h in hout]
+        ans = [(n, call.sub(r"\1 t \2", a)) for n, a in ans]
+    # a helper that calls another one at an earlier place: its text holds as it stands, since the steps have the same names
+    bodies = {}
+    for h in hout:
+        m = re.match(r"(?:--.*\n)*(%s) :" % IDENT, h)
+        if m:
+            k = re.search(r"(?m)^%s (?:t )?c =((?:.|\n)*)$" % re.escape(m[1]), h)
+            if k: bodies[m[1]] = k[1].strip()
+    def inline(m):
+        b = bodies.get(m[1])
+        if b is None or "let " in b: say(fn.key, "not inlined:", m[0]); return m[0]
+        return "(%s)" % b
+    hout = [re.sub(r"(?<![\w.'-])(%s) (?:t )?\(goal\.at\.\? (?:t )?c\)\.[\w'-]+" % IDENT, inline, h) for h in hout]
+    hout = [re.sub(r"\(goal\.at\.\? (?:t )?c\)\.[\w'-]+(?=\.[\w«])", "c", h) for h in hout]
     st["head"] = head; st["uses"] = uses
     st["inv"] += invs; st.setdefault("hinv", []); st["hinv"] += [h for h in hinv if h not in st["hinv"]]
     st.setdefault("h", []); st["h"] += [h for h in hout if h not in st["h"]]
