@@ -1,6 +1,4 @@
 // Decks and queries of any size, written into lent words.
-use std::num::wrapping_add_u16;
-
 pub fn put(words: &mut [u16], at: usize, word: u16) {
     if at < words.len() {
         words[at] = word;
@@ -9,18 +7,16 @@ pub fn put(words: &mut [u16], at: usize, word: u16) {
 
 // From one place to another: a word, and then each `step` more than the one before.
 pub fn fill(words: &mut [u16], from: usize, to: usize, first: u16, step: u16) {
-    let mut i = from;
     let mut word = first;
-    while i < to {
+    for i in from..to {
         put(words, i, word);
-        word = wrapping_add_u16(word, step);
-        i += 1;
+        word = word.wrapping_add(step);
     }
 }
 
 fn header(words: &mut [u16], s: u16, c: u16, t: u16) {
-    let clause_offset = wrapping_add_u16(8, s);
-    let term_offset = wrapping_add_u16(clause_offset, c);
+    let clause_offset = 8u16.wrapping_add(s);
+    let term_offset = clause_offset.wrapping_add(c);
     put(words, 0, 1);
     put(words, 1, s);
     put(words, 2, 8);
@@ -28,7 +24,7 @@ fn header(words: &mut [u16], s: u16, c: u16, t: u16) {
     put(words, 4, clause_offset);
     put(words, 5, t);
     put(words, 6, term_offset);
-    put(words, 7, wrapping_add_u16(term_offset, t));
+    put(words, 7, term_offset.wrapping_add(t));
 }
 
 // s symbols, all predicates without terms; c clauses of `size` cells each, the last one up to t; all cells are predicate 0.

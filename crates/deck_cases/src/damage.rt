@@ -1,5 +1,6 @@
 // Deck L of document 01 with words changed.
 use crate::show;
+use std::io;
 
 // End of a, end of b; a is drawn; x is a lead if x is an end and not drawn.
 pub fn deck_l() -> [u16; 29] {
@@ -9,62 +10,69 @@ pub fn deck_l() -> [u16; 29] {
     ]
 }
 
-fn opened(name: &[u8], deck: &[u16; 29]) {
-    show::opened(name, deck);
+fn opened(rt: &impl Print, name: &[u8], deck: &[u16; 29]) -> io::Result<()> {
+    show::opened(rt, name, deck)
 }
 
 // Deck L with the word at a place replaced.
-fn with(name: &[u8], at: usize, word: u16) {
+fn with(rt: &impl Print, name: &[u8], at: usize, word: u16) -> io::Result<()> {
     let mut deck = deck_l();
     if at < 29 {
         deck[at] = word;
     }
-    opened(name, &deck);
+    opened(rt, name, &deck)
 }
 
-pub fn headers() {
-    with(b"deck L", 0, 1);
-    with(b"format 2", 0, 2);
-    with(b"a symbol more", 1, 6);
-    with(b"no symbols", 1, 0);
-    with(b"symbol offset 9", 2, 9);
-    with(b"a clause less", 3, 3);
-    with(b"clause offset 12", 4, 12);
-    with(b"a cell more", 5, 13);
-    with(b"term offset 18", 6, 18);
-    with(b"total 30", 7, 30);
+pub fn headers(rt: &impl Print) -> io::Result<()> {
+    with(rt, b"deck L", 0, 1)?;
+    with(rt, b"format 2", 0, 2)?;
+    with(rt, b"a symbol more", 1, 6)?;
+    with(rt, b"no symbols", 1, 0)?;
+    with(rt, b"symbol offset 9", 2, 9)?;
+    with(rt, b"a clause less", 3, 3)?;
+    with(rt, b"clause offset 12", 4, 12)?;
+    with(rt, b"a cell more", 5, 13)?;
+    with(rt, b"term offset 18", 6, 18)?;
+    with(rt, b"total 30", 7, 30)
 }
 
-pub fn symbols_and_starts() {
-    with(b"first symbol word 16", 8, 16);
-    with(b"last symbol word 272", 12, 272);
-    with(b"first start 1", 13, 1);
-    with(b"second start 0", 14, 0);
-    with(b"third start the second", 15, 2);
-    with(b"last start past the cells", 16, 12);
+pub fn symbols_and_starts(rt: &impl Print) -> io::Result<()> {
+    with(rt, b"first symbol word 16", 8, 16)?;
+    with(rt, b"last symbol word 272", 12, 272)?;
+    with(rt, b"first start 1", 13, 1)?;
+    with(rt, b"second start 0", 14, 0)?;
+    with(rt, b"third start the second", 15, 2)?;
+    with(rt, b"last start past the cells", 16, 12)
 }
 
-pub fn heads() {
-    with(b"functor as head", 17, 0);
-    with(b"negated head", 17, 16386);
-    with(b"variable as head", 17, 32768);
-    with(b"no such symbol", 17, 5);
+pub fn heads(rt: &impl Print) -> io::Result<()> {
+    with(rt, b"functor as head", 17, 0)?;
+    with(rt, b"negated head", 17, 16386)?;
+    with(rt, b"variable as head", 17, 32768)?;
+    with(rt, b"no such symbol", 17, 5)
 }
 
-pub fn cells() {
-    with(b"predicate as term", 18, 2);
-    with(b"variable 1 first", 24, 32769);
-    with(b"functor as literal", 25, 0);
-    with(b"negated functor", 27, 16384);
-    with(b"last cell 33792", 28, 33792);
-    with(b"last cell a literal", 28, 2);
-    with(b"last cell variable 2", 28, 32770);
-    with(b"last cell variable 1", 28, 32769);
-    with(b"last cell functor b", 28, 1);
+pub fn cells(rt: &impl Print) -> io::Result<()> {
+    with(rt, b"predicate as term", 18, 2)?;
+    with(rt, b"variable 1 first", 24, 32769)?;
+    with(rt, b"functor as literal", 25, 0)?;
+    with(rt, b"negated functor", 27, 16384)?;
+    with(rt, b"last cell 33792", 28, 33792)?;
+    with(rt, b"last cell a literal", 28, 2)?;
+    with(rt, b"last cell variable 2", 28, 32770)?;
+    with(rt, b"last cell variable 1", 28, 32769)?;
+    with(rt, b"last cell functor b", 28, 1)
 }
 
 // Two damages.
-fn with_both(name: &[u8], first: usize, one: u16, second: usize, other: u16) {
+fn with_both(
+    rt: &impl Print,
+    name: &[u8],
+    first: usize,
+    one: u16,
+    second: usize,
+    other: u16,
+) -> io::Result<()> {
     let mut deck = deck_l();
     if first < 29 {
         deck[first] = one;
@@ -72,12 +80,12 @@ fn with_both(name: &[u8], first: usize, one: u16, second: usize, other: u16) {
     if second < 29 {
         deck[second] = other;
     }
-    opened(name, &deck);
+    opened(rt, name, &deck)
 }
 
 // The lower number is the answer, wherever the damage stands.
-pub fn two_at_once() {
-    with_both(b"total and first symbol", 7, 30, 8, 16);
-    with_both(b"last symbol and first start", 12, 272, 13, 1);
-    with_both(b"last start and first cell", 16, 12, 17, 5);
+pub fn two_at_once(rt: &impl Print) -> io::Result<()> {
+    with_both(rt, b"total and first symbol", 7, 30, 8, 16)?;
+    with_both(rt, b"last symbol and first start", 12, 272, 13, 1)?;
+    with_both(rt, b"last start and first cell", 16, 12, 17, 5)
 }

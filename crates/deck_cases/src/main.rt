@@ -1,6 +1,8 @@
 // Opens decks and checks queries that are right, damaged or at a limit, and writes the numbers of the answers, 0 where all is accepted.
 #![tactic(auto)]
 
+use std::io;
+
 mod build;
 mod damage;
 mod limits;
@@ -8,22 +10,22 @@ mod queries;
 mod reading;
 mod show;
 
-fn main() {
-    damage::headers();
-    damage::symbols_and_starts();
-    damage::heads();
-    damage::cells();
-    damage::two_at_once();
-    limits::sizes();
-    limits::arities();
-    limits::starts();
-    limits::lengths();
-    queries::accepted();
-    queries::no_literals();
-    queries::misnumbered();
-    queries::loose();
-    queries::loose_clauses();
-    queries::lengths();
-    reading::kinds();
-    reading::clauses(&damage::deck_l());
+fn main(rt: HostRuntime) -> io::Result<()> {
+    damage::headers(&rt)?;
+    damage::symbols_and_starts(&rt)?;
+    damage::heads(&rt)?;
+    damage::cells(&rt)?;
+    damage::two_at_once(&rt)?;
+    limits::sizes(&rt)?;
+    limits::arities(&rt)?;
+    limits::starts(&rt)?;
+    limits::lengths(&rt)?;
+    queries::accepted(&rt)?;
+    queries::no_literals(&rt)?;
+    queries::misnumbered(&rt)?;
+    queries::loose(&rt)?;
+    queries::loose_clauses(&rt)?;
+    queries::lengths(&rt)?;
+    reading::kinds(&rt)?;
+    reading::clauses(&rt, &damage::deck_l())
 }

@@ -5,67 +5,67 @@ ghost use Rattle.rules.specs.Decks.{header_fits, clause_words, term_cells, start
 use crate::show;
 use deck::kinds::Kind;
 use deck::{Checked, kinds, parts};
+use std::io;
 
-fn kind(symbols: &[u16], cell: u16) {
+fn kind(rt: &impl Print, symbols: &[u16], cell: u16) -> io::Result<()> {
     match kinds::read(symbols, cell) {
-        Kind::Variable(v) => show::line(b"variable", v as u64),
-        Kind::Function(k) => show::line(b"functor", k as u64),
-        Kind::Positive(k) => show::line(b"predicate", k as u64),
-        Kind::Negative(k) => show::line(b"negated", k as u64),
-        Kind::Invalid => show::line(b"no cell", cell as u64),
+        Kind::Variable(v) => show::line(rt, b"variable", v as u64),
+        Kind::Function(k) => show::line(rt, b"functor", k as u64),
+        Kind::Positive(k) => show::line(rt, b"predicate", k as u64),
+        Kind::Negative(k) => show::line(rt, b"negated", k as u64),
+        Kind::Invalid => show::line(rt, b"no cell", cell as u64),
     }
 }
 
 // Symbols: a functor of 15 terms and a predicate of 15 terms.
-fn of_two(cell: u16) {
-    kind(&[15, 271], cell);
+fn of_two(rt: &impl Print, cell: u16) -> io::Result<()> {
+    kind(rt, &[15, 271], cell)
 }
 
-pub fn kinds() {
-    of_two(0);
-    of_two(1);
-    of_two(2);
-    of_two(16383);
-    of_two(16384);
-    of_two(16385);
-    of_two(16386);
-    of_two(32767);
-    of_two(32768);
-    of_two(33791);
-    of_two(33792);
-    of_two(65535);
+pub fn kinds(rt: &impl Print) -> io::Result<()> {
+    of_two(rt, 0)?;
+    of_two(rt, 1)?;
+    of_two(rt, 2)?;
+    of_two(rt, 16383)?;
+    of_two(rt, 16384)?;
+    of_two(rt, 16385)?;
+    of_two(rt, 16386)?;
+    of_two(rt, 32767)?;
+    of_two(rt, 32768)?;
+    of_two(rt, 33791)?;
+    of_two(rt, 33792)?;
+    of_two(rt, 65535)
 }
 
 // Where clause i starts and ends, and its number of cells.
-fn clause(deck: &[u16], i: usize)
+fn clause(rt: &impl Print, deck: &[u16], i: usize) -> io::Result<()>
     requires deck_value { header_fits deck.now ≡ true }
     requires deck_value_2 { starts_fit (length (term_cells deck.now)) (clause_words deck.now) ≡ true }
     requires i_in_bounds { i < length (clause_words deck.now) }
 {
-    show::line(b"starts", parts::clause_start(deck, i) as u64);
-    show::line(b"ends", parts::clause_end(deck, i) as u64);
-    show::line(b"cells", parts::clause(deck, i).len() as u64);
+    show::line(rt, b"starts", parts::clause_start(deck, i) as u64)?;
+    show::line(rt, b"ends", parts::clause_end(deck, i) as u64)?;
+    show::line(rt, b"cells", parts::clause(deck, i).len() as u64)
 }
 
-fn each_clause(deck: &[u16])
+fn each_clause(rt: &impl Print, deck: &[u16]) -> io::Result<()>
     requires deck_value { header_fits deck.now ≡ true }
     requires deck_value_2 { starts_fit (length (term_cells deck.now)) (clause_words deck.now) ≡ true }
 {
     let count = parts::clause_count(deck);
-    let mut i = 0;
-    while i < count {
-        clause(deck, i);
-        i += 1;
+    for i in 0..count {
+        clause(rt, deck, i)?;
     }
+    Ok(())
 }
 
 // What an accepted deck's clauses are, and its third symbol.
-pub fn clauses(deck: &[u16]) {
+pub fn clauses(rt: &impl Print, deck: &[u16]) -> io::Result<()> {
     match deck::open(deck) {
         Checked::Accepted => {
-            each_clause(deck);
-            kind(parts::symbols(deck), 2);
+            each_clause(rt, deck)?;
+            kind(rt, parts::symbols(deck), 2)
         }
-        Checked::Refused(_) => show::line(b"clauses", 0),
+        Checked::Refused(_) => show::line(rt, b"clauses", 0),
     }
 }

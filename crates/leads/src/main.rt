@@ -1,29 +1,18 @@
 // The program: reads the deck from survey.dck and the query from standard input, and prints the listing.
 #![tactic(auto)]
 
-ghost use Rattle.io.specs.Counts.{IsPrefixLen};
+use bytes_io::{contents, read_full};
+use std::{fs, io};
 
 // No more is read than it takes to tell that there is too much.
-fn main() {
+fn main(rt: HostRuntime) -> io::Result<()> {
     let mut deck = [0u8; 32770];
     let mut query = [0u8; 1002];
     let mut out = [0u8; 65605];
-    let file = os::open_read(b"survey.dck");
-    let present = 0 <= file;
+    let file = fs::open(&rt, "survey.dck");
+    let present = file.is_ok();
     let d = contents(file, &mut deck);
-    let q = io::read_full(0, &mut query);
+    let q = read_full(&mut rt.stdin(), &mut query);
     let n = program::printed(present, &deck[..d], &query[..q], &mut out);
-    io::write_all(1, &out[..n]);
-}
-
-// Reads the file, if it is open, and closes it. Returns how many bytes stand at the start of `bytes`.
-fn contents(file: i32, bytes: &mut [u8]) -> usize
-    ensures { IsPrefixLen result bytes.new }
-{
-    if file < 0 {
-        return 0;
-    }
-    let n = io::read_full(file, bytes);
-    libc::close(file);
-    n
+    rt.write_all(&out[..n])
 }

@@ -5,59 +5,67 @@
 // Numbers are two bytes, low byte first.
 #![tactic(auto)]
 
-ghost use Rattle.io.specs.Counts.{IsPrefixLen};
+ghost use Rattle.bytes_io.specs.Prefix.{IsPrefixLen};
 
-use libc::STDOUT_FILENO;
+use bytes_io::{count, read_full};
+use std::io::Read;
+use std::{fs, io};
 
-fn main() {
-    let file = os::open_read(b"cases");
-    let mut left = number(file);
-    while 0 < left {
-        case(file);
-        left -= 1;
+// Without the file there are no cases.
+fn main(rt: HostRuntime) -> io::Result<()> {
+    match fs::open(&rt, "cases") {
+        Ok(mut file) => cases(&rt, &mut file),
+        Err(_) => Ok(()),
     }
 }
 
-fn case(file: i32) {
+fn cases(rt: &impl Print, file: &mut impl Read) -> io::Result<()> {
+    for _ in 0..number(file) {
+        case(rt, file)?;
+    }
+    Ok(())
+}
+
+fn case(rt: &impl Print, file: &mut impl Read) -> io::Result<()> {
     let mut deck = [0u8; 32772];
     let mut query = [0u8; 1004];
     let mut out = [0u8; 65605];
-    title(file);
+    title(rt, file)?;
     let present = number(file) != 0;
     let d = input(file, &mut deck);
     let q = input(file, &mut query);
     let n = program::printed(present, &deck[..d], &query[..q], &mut out);
-    io::write_all(STDOUT_FILENO, &out[..n]);
+    rt.write_all(&out[..n])
 }
 
-fn title(file: i32) {
+fn title(rt: &impl Print, file: &mut impl Read) -> io::Result<()> {
     let mut line = [0u8; 100];
     let n = given(file, &mut line);
-    io::write_all(STDOUT_FILENO, &line[..n]);
+    rt.write_all(&line[..n])
 }
 
 // Reads an input to the start of `bytes`, which are 0. Returns its length.
-fn input(file: i32, bytes: &mut [u8]) -> usize
+fn input(file: &mut impl Read, bytes: &mut [u8]) -> usize
     ensures { IsPrefixLen result bytes.new }
 {
-    let length = number(file) as isize;
+    let length = number(file) as usize;
     given(file, bytes);
-    io::count(length, bytes)
+    count(length, bytes)
 }
 
 // Reads a length and so many bytes. Returns the length.
-fn given(file: i32, bytes: &mut [u8]) -> usize
+fn given(file: &mut impl Read, bytes: &mut [u8]) -> usize
     ensures { IsPrefixLen result bytes.new }
 {
-    let length = number(file) as isize;
-    let n = io::count(length, bytes);
-    io::read_full(file, &mut bytes[..n]);
-    io::count(length, bytes)
+    let length = number(file) as usize;
+    let n = count(length, bytes);
+    read_full(file, &mut bytes[..n]);
+    count(length, bytes)
 }
 
-fn number(file: i32) -> u16 {
+fn number(file: &mut impl Read) -> u16 {
     let mut bytes = [0u8; 2];
-    io::read_full(file, &mut bytes);
+    read_full(file, &mut bytes);
     word(bytes[0], bytes[1])
 }
 

@@ -1,32 +1,32 @@
 // Numbers at the borders of what the listing prints, one to a line.
 #![tactic(auto)]
 
-use libc::STDOUT_FILENO;
-use listing::numbers;
+ghost use Rattle.std.specs.Prelude.{◌≤◌};
 
-fn main() {
-    line(0);
-    line(9);
-    line(10);
-    line(99);
-    line(100);
-    line(10000);
-    line(10001);
-    line(65535);
-    line(99999);
-    line(100000);
-    line(100001);
-    line(100010);
-    line(999999);
-    line(1000000);
-    line(1000000000);
-    line(4200000042);
-    line(4294967295);
+use listing::numbers;
+use std::io;
+
+fn main(rt: HostRuntime) -> io::Result<()> {
+    let borders = [
+        0, 9, 10, 99, 100, 10000, 10001, 65535, 99999, 100000, 100001, 100010, 999999, 1000000,
+        1000000000, 4200000042, 4294967295,
+    ];
+    for n in &borders {
+        line(&rt, *n)?;
+    }
+    Ok(())
 }
 
-fn line(n: u32) {
+fn line(rt: &impl Print, n: u32) -> io::Result<()> {
     let mut buffer = [0u8; 11];
-    let end = numbers::put_number(&mut buffer, 0, n);
+    let end = digits(&mut buffer, n);
     buffer[end] = 10;
-    io::write_all(STDOUT_FILENO, &buffer[..end + 1]);
+    rt.write_all(&buffer[..end + 1])
+}
+
+// A number has at most ten digits, so that its line fits the buffer.
+fn digits(buffer: &mut [u8; 11], n: u32) -> usize
+    ensures { result ≤ 10 }
+{
+    numbers::put_number(buffer, 0, n)
 }

@@ -5,71 +5,79 @@
 // Numbers are three bytes, low byte first.
 #![tactic(auto)]
 
-ghost use Rattle.io.specs.Counts.{IsPrefixLen};
+ghost use Rattle.bytes_io.specs.Prefix.{IsPrefixLen};
 
-use libc::STDOUT_FILENO;
+use bytes_io::{count, read_full};
+use std::io::Read;
+use std::{fs, io};
 
-fn main() {
-    let file = os::open_read(b"cases");
-    let mut left = number(file);
-    while 0 < left {
-        case(file);
-        left -= 1;
+// Without the file there are no cases.
+fn main(rt: HostRuntime) -> io::Result<()> {
+    match fs::open(&rt, "cases") {
+        Ok(mut file) => cases(&rt, &mut file),
+        Err(_) => Ok(()),
     }
 }
 
-fn case(file: i32) {
+fn cases(rt: &impl Print, file: &mut impl Read) -> io::Result<()> {
+    for _ in 0..number(file) {
+        case(rt, file)?;
+    }
+    Ok(())
+}
+
+fn case(rt: &impl Print, file: &mut impl Read) -> io::Result<()> {
     let mut bytes = [32u8; 262146];
-    title(file);
+    title(rt, file)?;
     let asked = number(file);
     let n = input(file, &mut bytes);
     if asked == 0 {
-        read(&bytes[..n]);
+        read(rt, &bytes[..n])
     } else {
-        write(asked == 1, &bytes[..n]);
+        write(rt, asked == 1, &bytes[..n])
     }
 }
 
-fn read(text: &[u8]) {
+fn read(rt: &impl Print, text: &[u8]) -> io::Result<()> {
     let mut out = [0u8; 32768];
     let n = text_program::read_printed(text, &mut out);
-    io::write_all(STDOUT_FILENO, &out[..n]);
+    rt.write_all(&out[..n])
 }
 
-fn write(present: bool, deck: &[u8]) {
+fn write(rt: &impl Print, present: bool, deck: &[u8]) -> io::Result<()> {
     let mut out = [0u8; 262144];
     let n = text_program::write_printed(present, deck, &mut out);
-    io::write_all(STDOUT_FILENO, &out[..n]);
+    rt.write_all(&out[..n])
 }
 
-fn title(file: i32) {
+fn title(rt: &impl Print, file: &mut impl Read) -> io::Result<()> {
     let mut line = [0u8; 100];
     let n = given(file, &mut line);
-    io::write_all(STDOUT_FILENO, &line[..n]);
+    rt.write_all(&line[..n])
 }
 
 // Reads an input to the start of `bytes`, which are spaces. Returns its length.
-fn input(file: i32, bytes: &mut [u8]) -> usize
+fn input(file: &mut impl Read, bytes: &mut [u8]) -> usize
     ensures { IsPrefixLen result bytes.new }
 {
-    let length = number(file) as isize;
+    let length = number(file) as usize;
     given(file, bytes);
-    io::count(length, bytes)
+    count(length, bytes)
 }
 
 // Reads a length and so many bytes. Returns the length.
-fn given(file: i32, bytes: &mut [u8]) -> usize
+fn given(file: &mut impl Read, bytes: &mut [u8]) -> usize
     ensures { IsPrefixLen result bytes.new }
 {
-    let length = number(file) as isize;
-    let n = io::count(length, bytes);
-    io::read_full(file, &mut bytes[..n]);
-    io::count(length, bytes)
+    let length = number(file) as usize;
+    let n = count(length, bytes);
+    read_full(file, &mut bytes[..n]);
+    count(length, bytes)
 }
 
-fn number(file: i32) -> u32 {
+fn number(file: &mut impl Read) -> u32 {
     let mut bytes = [0u8; 3];
-    io::read_full(file, &mut bytes);
+    read_full(file, &mut bytes);
     joined(bytes[0], bytes[1], bytes[2])
 }
 
