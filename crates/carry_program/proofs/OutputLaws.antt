@@ -10,17 +10,16 @@ use Rattle.rules.specs.Goals.{unmarked, write_goals, words_of, marked_words}
 use Rattle.rules.specs.Stored.{OpenGoals, read_open}
 use Rattle.rules.specs.Evaluation.{Outcome}
 use Rattle.rules.specs.Run.{store_start}
-use Rattle.rules.specs.Refusals.{accepted}
 use Rattle.rules.specs.Program.{bytes_from}
 use Rattle.rules.specs.CarryProgram.{number_bytes, kept_goals}
 use Rattle.rules.proofs.GoalLaws.{goals-length, marked_words-append, unmarked-words}
-use Rattle.rules.proofs.StoredLaws.{OpenReads, open-reads}
+use Rattle.rules.proofs.StoredLaws.{open-reads}
 use Rattle.stored.specs.Passing.{OpenFound}
 use Rattle.stored.specs.declared.Found.TheVariants.{Until, Nothing}
 use Rattle.listing.specs.Put.{Put}
 use Rattle.listing.proofs.PutLaws.{Left, put_one, put_some, put_then}
 use Rattle.listing.proofs.ByteLaws.{bytes-length}
-use Rattle.carry_program.specs.Ends.{goals_bytes, LeftOpen, Counted}
+use Rattle.carry_program.specs.Ends.{goals_bytes, Counted}
 
 -- A BYTE MORE of a number
 number-next : (k n : ℕ) → 0 < k → number_bytes k n ≡ (n % 256) ∷ number_bytes (k - 1) (n / 256)

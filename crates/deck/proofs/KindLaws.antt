@@ -5,7 +5,7 @@ use mathlib.Core.Option.{Option, none, some}
 use mathlib.Core.List.{List, [], ◌∷◌}
 use native.Mathlib.Omega.{arith}
 use denote.Enum.Declared.{tag_of}
-use types.Run.{OneOf, miss}
+use types.Run.{OneOf, hit}
 use borrow.Author.Tests.{le-leb, lt-leb}
 use Rattle.rules.specs.Syntax.{Symbol, functor, predicate}
 use Rattle.rules.specs.Cells.{Cell, variable, function, positive, negative, invalid, symbol_cell, negated_cell, variable_cell, read_cell}
@@ -27,10 +27,32 @@ if_positive f other Invalid = other
 abbrev pub Others : List ℕ → Kind → Type 0
 Others tags k = OneOf tags (tag_of the_type k)
 
-pub not-positive : {A : Type 0} (f : ℕ → A) (other : A) (k : Kind) → Others (0 ∷ 1 ∷ 3 ∷ 4 ∷ []) k → if_positive f other k ≡ other
+-- A kind that none of the arms before took is one of the others.
+pub no-variable : (k : Kind) → ((v : ℕ) → k ≡ Variable v → ⊥) → Others (1 ∷ 2 ∷ 3 ∷ 4 ∷ []) k
+no-variable (Variable v) h = absurd (h v refl)
+no-variable (Function k) h = hit (1 ∷ 2 ∷ 3 ∷ 4 ∷ []) 1 tt
+no-variable (Positive k) h = hit (1 ∷ 2 ∷ 3 ∷ 4 ∷ []) 2 tt
+no-variable (Negative k) h = hit (1 ∷ 2 ∷ 3 ∷ 4 ∷ []) 3 tt
+no-variable Invalid h = hit (1 ∷ 2 ∷ 3 ∷ 4 ∷ []) 4 tt
+
+pub no-term : (k : Kind) → ((v : ℕ) → k ≡ Variable v → ⊥) → ((a : ℕ) → k ≡ Function a → ⊥) → Others (2 ∷ 3 ∷ 4 ∷ []) k
+no-term (Variable v) h g = absurd (h v refl)
+no-term (Function k) h g = absurd (g k refl)
+no-term (Positive k) h g = hit (2 ∷ 3 ∷ 4 ∷ []) 2 tt
+no-term (Negative k) h g = hit (2 ∷ 3 ∷ 4 ∷ []) 3 tt
+no-term Invalid h g = hit (2 ∷ 3 ∷ 4 ∷ []) 4 tt
+
+pub no-predicate : (k : Kind) → ((a : ℕ) → k ≡ Positive a → ⊥) → ((a : ℕ) → k ≡ Negative a → ⊥) → Others (0 ∷ 1 ∷ 4 ∷ []) k
+no-predicate (Variable v) h g = hit (0 ∷ 1 ∷ 4 ∷ []) 0 tt
+no-predicate (Function k) h g = hit (0 ∷ 1 ∷ 4 ∷ []) 1 tt
+no-predicate (Positive k) h g = absurd (h k refl)
+no-predicate (Negative k) h g = absurd (g k refl)
+no-predicate Invalid h g = hit (0 ∷ 1 ∷ 4 ∷ []) 4 tt
+
+pub not-positive : {A : Type 0} (f : ℕ → A) (other : A) (k : Kind) → ((a : ℕ) → k ≡ Positive a → ⊥) → if_positive f other k ≡ other
 not-positive f other (Variable v) h = refl
 not-positive f other (Function k) h = refl
-not-positive f other (Positive k) h = absurd (miss (0 ∷ 1 ∷ 3 ∷ 4 ∷ []) 2 tt h)
+not-positive f other (Positive k) h = absurd (h k refl)
 not-positive f other (Negative k) h = refl
 not-positive f other Invalid h = refl
 

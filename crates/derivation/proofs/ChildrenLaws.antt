@@ -1,14 +1,14 @@
 -- The derived goals, clause by clause, where they are written, and the equations that their clauses take. Assumes nothing.
 use Prim.Native.Nat.{ℕ, zero, suc, ◌+◌, ◌-◌, ◌≤◌, ◌<◌}
 use mathlib.Core.Path.{◌≡◌, refl, ap, sym, ◌∙◌, subst}
-use mathlib.Core.Logic.{◌⊎◌, ⊎_elim}
+use mathlib.Core.Logic.{⊎_elim}
 use mathlib.Core.Bool.{Bool, true, false, ◌||◌, true≢false}
 use mathlib.Core.Option.{Option, none, some}
 use mathlib.Core.List.{List, [], ◌∷◌, ◌++◌, append_assoc, append-nil}
 use native.Mathlib.Omega.{arith}
 use lib.ListN.{length, take, drop, drop_of_length-le, length-drop}
-use lib.Seq.{sets, length-sets, drop-drop}
-use lib.Dec.{eqb, ltb}
+use lib.Seq.{length-sets, drop-drop}
+use lib.Dec.{ltb}
 use borrow.Author.Tests.{eq-eqb, ne_eqb, lt-ltb, le-ltb}
 use Rattle.rules.specs.Terms.{Terms}
 use Rattle.rules.specs.Syntax.{Literal, Clause, Deck, Goal, top_goal}
@@ -130,6 +130,7 @@ one-more-written gs g =
 
 -- What a clause gives has its place.
 pub child-short : (o : Option Goal) (child : List ℕ) (w : ℕ) → IsResolvent o child (Child w) → w ≤ 1024
+child-short none child w h = elim h [ ]
 child-short (some g) child w h = h.1
 
 pub given-fits : (o : Option Goal) (child : List ℕ) (answer : Resolved) (end : ℕ) → IsResolvent o child answer → 1024 ≤ length child → end + 1024 < 18446744073709551616
@@ -242,6 +243,9 @@ module _ (by : Clause → Option Goal) (N : ℕ) (ts : Terms) (p : ℕ) (cs : Li
         go none Nothing h e k =
             rw (k.0, k.1, k.2)
             record { given = r.given; whole = e; large = r.large; low = r.low; kept = r.kept; reaches = r.reaches; words = r.words; paid = paid' }
+        go none (Child w) h e k = elim h [ ]
+        go none Oversized h e k = elim h [ ]
+        go (some g) Nothing h e k = elim h [ ]
         go (some g) (Child w) h e k =
             let xs = take w child in
             let b : base ≤ end = r.low in

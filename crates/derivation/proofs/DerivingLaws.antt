@@ -1,13 +1,13 @@
 -- The store before and after a step on a selected positive literal. Assumes nothing.
 use Prim.Native.Nat.{ℕ, suc, ◌+◌, ◌-◌, ◌*◌, ◌≤◌, ◌<◌}
-use mathlib.Core.Path.{◌≡◌, refl, ap, ap₂, sym, ◌∙◌, subst}
-use mathlib.Core.List.{List, [], ◌∷◌, ◌++◌, reverse, reverse-append}
+use mathlib.Core.Path.{◌≡◌, refl, ap, sym, ◌∙◌}
+use mathlib.Core.List.{List, ◌∷◌, ◌++◌, reverse, reverse-append}
 use native.Mathlib.Omega.{arith}
 use lib.ListN.{length, take, length-append, length-reverse}
-use lib.Seq.{sets, take_at, take-take, length-take-le}
-use Rattle.rules.specs.Terms.{Terms, sizes}
+use lib.Seq.{sets, take_at, take-take}
+use Rattle.rules.specs.Terms.{Terms}
 use Rattle.rules.specs.Syntax.{Literal, Deck, Goal, top_goal}
-use Rattle.rules.specs.Goals.{pending, mark_number, marked, unmarked, goal_cells, goal_words, write_goal, write_goals, words_of}
+use Rattle.rules.specs.Goals.{pending, mark_number, marked, unmarked, goal_words, write_goal, write_goals}
 use Rattle.rules.specs.Resolution.{positive, resolvents, selected_cost}
 use Rattle.rules.specs.WellFormed.{WfGoal}
 use Rattle.rules.proofs.ListLaws.{all_append}

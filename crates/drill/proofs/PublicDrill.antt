@@ -7,7 +7,7 @@ use mathlib.Core.List.{List, [], ◌∷◌}
 use native.Mathlib.Omega.{arith}
 use lib.ListN.{length}
 use lib.Dec.{leb}
-use borrow.Author.Tests.{leb-true, le-leb}
+use borrow.Author.Tests.{le-leb}
 use Rattle.rules.specs.Syntax.{Symbol, Deck}
 use Rattle.rules.specs.Refusals.{Refusal, bad_drill, Checked, refused, accepted, and_then, require, obtain}
 use Rattle.rules.specs.Decks.{open_deck}

@@ -1,5 +1,5 @@
 -- The terms that a call has written, as trees whose cells stand in the list, and their lines.
-use Prim.Native.Nat.{ℕ, suc, ◌+◌, ◌*◌, ◌≤◌}
+use Prim.Native.Nat.{ℕ, suc, ◌*◌, ◌≤◌}
 use mathlib.Core.Path.{◌≡◌, refl, ap, ap₂, sym, ◌∙◌, subst}
 use mathlib.Core.Bool.{true}
 use mathlib.Core.List.{List, [], ◌∷◌, ◌++◌}
@@ -7,17 +7,16 @@ use native.Mathlib.Omega.{arith}
 use lib.ListN.{length, drop}
 use Rattle.rules.specs.Terms.{Terms, nil, cons, count, sizes, vars_term, vars_terms}
 use Rattle.rules.specs.Syntax.{Symbol}
-use Rattle.rules.specs.Cells.{write_terms, Row, row, read_row}
-use Rattle.rules.specs.Refusals.{Refusal, Checked, refused, accepted, and_then}
-use Rattle.rules.specs.Decks.{header_fits, symbol_words, open_deck}
+use Rattle.rules.specs.Cells.{write_terms, read_row}
+use Rattle.rules.specs.Refusals.{Checked, refused, accepted, and_then}
+use Rattle.rules.specs.Decks.{header_fits, symbol_words}
 use Rattle.rules.specs.WellFormed.{All, WfTerms}
 use Rattle.rules.specs.Drill.{DrillTerm, drill, joined, list_after}
 use Rattle.rules.specs.DrillProgram.{row_terms, print_lines, drill_prints}
 use Rattle.rules.proofs.CellLaws.{Small, after-term, write-append, terms-length, read-row}
 use Rattle.rules.proofs.DeckLaws.{steps-open}
-use Rattle.deck.specs.Answers.{number_of, refusal_for}
+use Rattle.deck.specs.Answers.{refusal_for}
 use Rattle.deck.specs.declared.Refusal.{Refusal as Why}
-use Rattle.deck.specs.declared.Checked.TheVariants as checked
 use Rattle.deck.proofs.RefusalLaws.{number-injective}
 use Rattle.drill.specs.Answers.{Answers}
 use Rattle.drill.specs.declared.Drilled.{Drilled}

@@ -5,7 +5,7 @@ ghost use Rattle.encoding.specs.Walk.{ClausesAt, takes, begins, Sized};
 
 use text::tokens;
 
-#[derive(Drop)]
+#[derive(Clone, Copy)]
 pub struct Sizes {
     pub clauses: usize,
     pub cells: usize,

@@ -2,7 +2,7 @@
 use Prim.Native.Nat.{ℕ, ◌+◌, ◌≤◌}
 use mathlib.Core.Path.{◌≡◌, refl, sym, ◌∙◌, ap, subst}
 use mathlib.Core.Bool.{Bool, true, false}
-use mathlib.Core.Option.{Option, none, some}
+use mathlib.Core.Option.{some}
 use mathlib.Core.List.{List, ◌++◌}
 use native.Mathlib.Omega.{arith}
 use lib.ListN.{length, take}
@@ -18,7 +18,7 @@ use Rattle.rules.specs.Evaluation.{evaluate}
 use Rattle.rules.specs.Run.{Carried, check_sizes, carry, carry_on, carry_from, RanOn}
 use Rattle.rules.proofs.ListLaws.{all-weaken}
 use Rattle.rules.proofs.GoalLaws.{goals-length, marked_words-append, unmarked-words}
-use Rattle.rules.proofs.StoredLaws.{Fits, ParkedFits, OpenReads, open-reads}
+use Rattle.rules.proofs.StoredLaws.{Fits, ParkedFits, open-reads}
 use Rattle.rules.proofs.Carried.{carry-parts}
 use Rattle.deck.specs.Answers.{number_of, refusal_for}
 use Rattle.deck.specs.declared.Refusal.{Refusal}

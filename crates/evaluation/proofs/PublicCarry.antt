@@ -15,7 +15,7 @@ use Rattle.rules.specs.Decks.{open_deck, read_query}
 use Rattle.rules.specs.Goals.{Marked, unmarked, query_variables, read_goals}
 use Rattle.rules.specs.Run.{Slices}
 use Rattle.rules.specs.ThreeValues.{ExcludedMiddle}
-use Rattle.rules.specs.Demand.{Covered, Valued, Known, CoveredFrom, ValuedFrom, KnownFrom, SaidOn, DemandOn}
+use Rattle.rules.specs.Demand.{Covered, Valued, Known, CoveredFrom, ValuedFrom, KnownFrom, SaidOn}
 use Rattle.rules.proofs.StoredLaws.{open-reads, open-list}
 use Rattle.rules.proofs.Carried.{CarriesOn, CarriedOn, goes_on, demand-on, demand-on-valued, demand-on-known, on-within, on-spends, carries-on, fresh-carries, carried-covers, query-carried, query-carried-values, query-carried-stays}
 use Rattle.report.specs.Reports.{report_of}

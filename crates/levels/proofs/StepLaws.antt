@@ -113,7 +113,9 @@ module _ (clauses : List Clause) (below room : ℕ) (g : Goal) (gs : List Goal) 
   pub next-is : (answer_room store_size : ℕ) (at : Place) (l : Level) → l.pending ≡ g ∷ gs → (act : Act) → act_of clauses below g ≡ act
       → next_of clauses answer_room store_size below at l a.left ≡ check_store store_size at (act_step answer_room at l g gs act)
   unfolding next_of next_from
-  next-is answer_room store_size at l p act e = rw (p, le-leb (cost_of clauses g) a.left (omega (arith, pays.left)), next_from, e)
+  next-is answer_room store_size at l p act e =
+      let whole : List Goal → Level = λ q. record { pending = q; parked = l.parked; answers = l.answers } in
+      rw (p, le-leb (cost_of clauses g) a.left (omega (arith, pays.left)), next_from, e) (ap (λ (q : List Goal). check_store store_size at (act_step answer_room at (whole q) g gs act)) p)
 
   pub paid : (l : Level) → l.pending ≡ g ∷ gs → pay clauses l a ≡ b
   paid l p = account-is (pay clauses l a) b (omega (arith, first-cost clauses l p, pays.left)) (omega (arith, pays.steps))

@@ -20,7 +20,7 @@ use resolvents::select::{Selected, select_literal};
 use words::wide;
 
 // What is left of the budget, and the steps taken so far, over all levels.
-#[derive(Drop)]
+#[derive(Clone, Copy)]
 pub struct Account {
     pub left: u32,
     pub steps: u32,

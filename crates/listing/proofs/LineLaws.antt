@@ -1,11 +1,9 @@
 -- The lines in front of the answers: the verdict's cases, the numbers in parts, and how long the lines are.
-use Prim.Native.Nat.{ℕ, ◌+◌, ◌≤◌}
+use Prim.Native.Nat.{ℕ, ◌≤◌}
 use mathlib.Core.Path.{◌≡◌, refl, ap, sym, ◌∙◌}
 use mathlib.Core.List.{List, [], ◌∷◌, ◌++◌, append_assoc}
 use native.Mathlib.Omega.{arith}
 use lib.ListN.{length, length-append}
-use denote.Enum.Declared.{tag_of}
-use types.Run.{OneOf, miss}
 use Rattle.rules.specs.Syntax.{Goal}
 use Rattle.rules.specs.Goals.{Marked}
 use Rattle.rules.specs.Evaluation.{finished, budget, answers, store, Outcome}
@@ -13,7 +11,6 @@ use Rattle.rules.specs.Listing.{decimal, no_text, all_text, open_text, verdict_t
 use Rattle.rules.specs.Refusals.{accepted}
 use Rattle.rules.specs.Evaluation as rules
 use Rattle.rules.specs.Run as run
-use Rattle.report.specs.contracts.Stop.{the_type}
 use Rattle.report.specs.Reports.{stop_of, report_of}
 use Rattle.report.specs.declared.Report.{Report}
 use Rattle.report.specs.declared.Stop.{Stop}
@@ -39,9 +36,9 @@ verdict-all [] [] e h = absurd (h refl)
 verdict-all [] (g ∷ gs) e h = refl
 verdict-all (m ∷ ms) gs e h = absurd (omega arith)
 
-pub verdict-cut : (ms : List Marked) (gs : List Goal) (s : Stop) → OneOf (1 ∷ 2 ∷ 3 ∷ []) (tag_of the_type s) → verdict_text (stop_of s) ms gs ≡ open_text
+pub verdict-cut : (ms : List Marked) (gs : List Goal) (s : Stop) → (s ≡ Finished → ⊥) → verdict_text (stop_of s) ms gs ≡ open_text
 unfolding verdict_text
-verdict-cut ms gs Finished h = absurd (miss (1 ∷ 2 ∷ 3 ∷ []) 0 tt h)
+verdict-cut ms gs Finished h = absurd (h refl)
 verdict-cut ms gs Budget h = refl
 verdict-cut ms gs Answers h = refl
 verdict-cut ms gs Store h = refl

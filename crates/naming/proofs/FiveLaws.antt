@@ -1,5 +1,4 @@
 -- A declaration in the rules: five tokens that the grammar takes.
-use Prim.Native.Nat.{◌-◌}
 use mathlib.Core.Path.{◌≡◌, refl, ap, sym, ◌∙◌}
 use mathlib.Core.Bool.{Bool, true, false, and-eq-true_iff}
 use mathlib.Core.Option.{none, none-ne-some}

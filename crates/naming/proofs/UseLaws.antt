@@ -2,14 +2,14 @@
 use Prim.Native.Nat.{ℕ, zero, suc, ◌-◌, ◌≤◌, ◌%◌}
 use mathlib.Core.Path.{◌≡◌, refl, ap, ap₂, sym, ◌∙◌}
 use mathlib.Core.Bool.{false}
-use mathlib.Core.Option.{none, some, Option}
+use mathlib.Core.Option.{none, some}
 use mathlib.Core.List.{List, [], ◌∷◌, map}
 use native.Mathlib.Omega.{arith}
 use lib.ListN.{length, get_or, take, get_elem?, replicate, length-replicate}
 use lib.Dec.{eqb}
 use Rattle.text_rules.specs.TextTokens.{tokens}
 use Rattle.text_rules.specs.TextGrammar.{item, unread}
-use Rattle.text_rules.specs.TextWords.{Declaration, number_of, is_number, has_arity, declared_at, Use, well_used}
+use Rattle.text_rules.specs.TextWords.{Declaration, has_arity, declared_at, Use, well_used}
 use Rattle.rules.specs.Decks.{write_symbol}
 use Rattle.text_rules.specs.Text.{text_declarations}
 use Rattle.text.specs.Names.{last_with, name_at, is_name}

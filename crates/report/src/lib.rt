@@ -6,7 +6,7 @@ ghost use Rattle.rules.specs.Evaluation.{stop_number};
 ghost use Rattle.report.specs.Reports.{stop_of};
 
 // Why a run stops.
-#[derive(Drop)]
+#[derive(Clone, Copy)]
 pub enum Stop {
     Finished,
     Budget,
@@ -15,7 +15,7 @@ pub enum Stop {
 }
 
 // The stop, the steps used over all levels and their cost, and the numbers of answers, pending and parked goals.
-#[derive(Drop)]
+#[derive(Clone, Copy)]
 pub struct Report {
     pub stop: Stop,
     pub steps: u32,

@@ -1,5 +1,5 @@
 -- Laws of the draft's parts.
-use Prim.Native.Nat.{ℕ, ◌+◌, ◌≤◌, ◌<◌}
+use Prim.Native.Nat.{ℕ, ◌+◌, ◌<◌}
 use mathlib.Core.Path.{◌≡◌, sym, ◌∙◌, ap}
 use mathlib.Core.Option.{Option, none, some}
 use mathlib.Core.List.{List}

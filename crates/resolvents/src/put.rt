@@ -13,7 +13,7 @@ use matching::bindings::resolve;
 use matching::cells::arity_of;
 
 // How writing ended: the place after the terms, or that they do not fit; and how many variables have a number.
-#[derive(Drop)]
+#[derive(Clone, Copy)]
 pub enum Put {
     To(usize, usize),
     Full(usize),

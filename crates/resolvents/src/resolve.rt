@@ -36,7 +36,7 @@ pub enum Attempt {
 }
 
 // A goal's cells: how many they are, how many of them are its answer terms, and the selected literal from s up to e.
-#[derive(Drop)]
+#[derive(Clone, Copy)]
 pub struct Call {
     pub len: usize,
     pub answers: usize,

@@ -65,12 +65,15 @@ module _ {clauses : List Clause} {answer_room store_size : ℕ} where
   zeroth-success a = elim a [ ]
 
   -- At level 0 a level never succeeds.
-  pub zeroth-stops : {below : ℕ} {a : Account} {l : Level} {b : Account} {l' : Level} → Runs clauses answer_room store_size below zeroth l a (ended succeeded l' b) → ⊥
-  zeroth-stops (steps n r) = zeroth-stops r
-  zeroth-stops (wins n) = zeroth-success (next-ahead n)
-  zeroth-stops (proves n i r) = zeroth-stops r
-  zeroth-stops (disproves n i f r) = zeroth-stops r
-  zeroth-stops (unsettles n i f r) = zeroth-stops r
+  zeroth_stops_lem : {below : ℕ} {a : Account} {l : Level} {b : Account} {l' : Level} → Runs clauses answer_room store_size below zeroth l a (ended succeeded l' b) → ⊥
+  zeroth_stops_lem (steps n r) = zeroth_stops_lem r
+  zeroth_stops_lem (wins n) = zeroth-success (next-ahead n)
+  zeroth_stops_lem (proves n i r) = zeroth_stops_lem r
+  zeroth_stops_lem (disproves n i f r) = zeroth_stops_lem r
+  zeroth_stops_lem (unsettles n i f r) = zeroth_stops_lem r
+
+  pub zeroth-stops : {below : ℕ} {a b : Account} {l l' : Level} → Runs clauses answer_room store_size below zeroth l a (ended succeeded l' b) → ⊥
+  zeroth-stops r = zeroth_stops_lem r
 
 -- A goal without literals.
 abbrev pub Bare : Goal → Type 0

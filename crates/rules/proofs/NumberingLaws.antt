@@ -56,21 +56,27 @@ unfolding position
 after-head xs x v e = rw (e, position)
 
 -- A member's place is the one in the part where it is first found.
-pub position-below : (v : ℕ) {xs : List ℕ} → In v xs → position xs v < length xs
-position-below v (Memᴰ.head {x = x} {xs = xs} e) = rw (at_head xs x v (eq-eqb v x e)) (omega arith)
-position-below v (Memᴰ.tail {x = x} {xs = xs} h) = go (eqb v x) refl (position-below v h)
+position_below_lem : (v : ℕ) {xs : List ℕ} → In v xs → position xs v < length xs
+position_below_lem v (Memᴰ.head {x = x} {xs = xs} e) = rw (at_head xs x v (eq-eqb v x e)) (omega arith)
+position_below_lem v (Memᴰ.tail {x = x} {xs = xs} h) = go (eqb v x) refl (position_below_lem v h)
   where
     go : (b : Bool) → eqb v x ≡ b → position xs v < length xs → position (x ∷ xs) v < length (x ∷ xs)
     go true e k = rw (at_head xs x v e) (omega arith)
     go false e k = rw (after-head xs x v e) (omega arith)
 
-pub position-left : (ys : List ℕ) (v : ℕ) {xs : List ℕ} → In v xs → position (xs ++ ys) v ≡ position xs v
-position-left ys v (Memᴰ.head {x = x} {xs = xs} e) = rw (at_head xs x v (eq-eqb v x e), at_head (xs ++ ys) x v (eq-eqb v x e))
-position-left ys v (Memᴰ.tail {x = x} {xs = xs} h) = go (eqb v x) refl (position-left ys v h)
+pub position-below : {xs : List ℕ} (v : ℕ) → In v xs → position xs v < length xs
+position-below v h = position_below_lem v h
+
+position_left_lem : (ys : List ℕ) (v : ℕ) {xs : List ℕ} → In v xs → position (xs ++ ys) v ≡ position xs v
+position_left_lem ys v (Memᴰ.head {x = x} {xs = xs} e) = rw (at_head xs x v (eq-eqb v x e), at_head (xs ++ ys) x v (eq-eqb v x e))
+position_left_lem ys v (Memᴰ.tail {x = x} {xs = xs} h) = go (eqb v x) refl (position_left_lem ys v h)
   where
     go : (b : Bool) → eqb v x ≡ b → position (xs ++ ys) v ≡ position xs v → position (x ∷ (xs ++ ys)) v ≡ position (x ∷ xs) v
     go true e k = rw (at_head xs x v e, at_head (xs ++ ys) x v e)
     go false e k = rw (after-head xs x v e, after-head (xs ++ ys) x v e, k)
+
+pub position-left : {xs : List ℕ} (ys : List ℕ) (v : ℕ) → In v xs → position (xs ++ ys) v ≡ position xs v
+position-left ys v h = position_left_lem ys v h
 
 pub position-right : (xs ys : List ℕ) (v : ℕ) → ¬ (In v xs) → position (xs ++ ys) v ≡ length xs + position ys v
 position-right [] ys v n = omega arith
@@ -81,13 +87,16 @@ position-right (x ∷ xs) ys v n =
 pub position_first : (xs : List ℕ) (v : ℕ) → position (v ∷ xs) v ≡ 0
 position_first xs v = at_head xs v v (eq-eqb v v refl)
 
-pub at_position : (v : ℕ) {xs : List ℕ} → In v xs → get_or xs (position xs v) 0 ≡ v
-at_position v (Memᴰ.head {x = x} {xs = xs} e) = rw (at_head xs x v (eq-eqb v x e)) (sym e)
-at_position v (Memᴰ.tail {x = x} {xs = xs} h) = go (eqb v x) refl (at_position v h)
+at_position_lem : (v : ℕ) {xs : List ℕ} → In v xs → get_or xs (position xs v) 0 ≡ v
+at_position_lem v (Memᴰ.head {x = x} {xs = xs} e) = rw (at_head xs x v (eq-eqb v x e)) (sym e)
+at_position_lem v (Memᴰ.tail {x = x} {xs = xs} h) = go (eqb v x) refl (at_position_lem v h)
   where
     go : (b : Bool) → eqb v x ≡ b → get_or xs (position xs v) 0 ≡ v → get_or (x ∷ xs) (position (x ∷ xs) v) 0 ≡ v
     go true e k = rw (at_head xs x v e) (sym (eqb-true v x e))
     go false e k = rw (after-head xs x v e) k
+
+pub at_position : {xs : List ℕ} (v : ℕ) → In v xs → get_or xs (position xs v) 0 ≡ v
+at_position v h = at_position_lem v h
 
 -- FIRST APPEARANCES
 -- A number is seen already, and is passed over, or is put at the end.

@@ -31,13 +31,17 @@ module _ (clauses : List Clause) (answer_room store_size : ℕ) where
     pub by_ask : (below left : ℕ) (at : Place) (l : Level) (q : Question) → next_of clauses answer_room store_size (suc below) at l left ≡ ask q
         → P (suc below) l → P below (start_level q.goal) × P (suc below) q.on_success × P (suc below) q.on_failure × P (suc below) q.on_unsettled
 
-  pub passes-keep : (P : ℕ → Level → Type 0) → Keeping P → {below₀ : ℕ} {a₀ : Account} {at₀ : Place} {l₀ : Level} {below : ℕ} {a : Account} {at : Place} {l : Level} → P below₀ l₀
+  passes_keep_lem : (P : ℕ → Level → Type 0) → Keeping P → {below₀ : ℕ} {a₀ : Account} {at₀ : Place} {l₀ : Level} {below : ℕ} {a : Account} {at : Place} {l : Level} → P below₀ l₀
       → Passes clauses answer_room store_size below₀ at₀ l₀ a₀ below at l a → P below l
-  passes-keep P k h starts = h
-  passes-keep P k h (steps {below} {a} {at} {l} {l'} p e) = k.by_step below a.left at l l' e (passes-keep P k h p)
-  passes-keep P k h (opens {below} {a} {at} {l} {q} p e) = (k.by_ask below a.left at l q e (passes-keep P k h p)).0
-  passes-keep P k h (closes {below} {a} {b} {at} {l} {l'} {q} p e g) =
-      let n = k.by_ask below a.left at l q e (passes-keep P k h p) in goes_on_lem (P (suc below)) l q _ l' b g n.1 n.2 n.3
+  passes_keep_lem P k h starts = h
+  passes_keep_lem P k h (steps {below} {a} {at} {l} {l'} p e) = k.by_step below a.left at l l' e (passes_keep_lem P k h p)
+  passes_keep_lem P k h (opens {below} {a} {at} {l} {q} p e) = (k.by_ask below a.left at l q e (passes_keep_lem P k h p)).0
+  passes_keep_lem P k h (closes {below} {a} {b} {at} {l} {l'} {q} p e g) =
+      let n = k.by_ask below a.left at l q e (passes_keep_lem P k h p) in goes_on_lem (P (suc below)) l q _ l' b g n.1 n.2 n.3
+
+  pub passes-keep : (P : ℕ → Level → Type 0) → Keeping P → {below₀ below : ℕ} {a₀ a : Account} {at₀ at : Place} {l₀ l : Level} → P below₀ l₀
+      → Passes clauses answer_room store_size below₀ at₀ l₀ a₀ below at l a → P below l
+  passes-keep P k h p = passes_keep_lem P k h p
 
   -- In particular a property of goals that each act keeps (`Kept`).
   pub has_kept : (J : Invariant) → ((g : Goal) → J.pending g → Kept J clauses g) → Keeping (λ below l. LevelHas J l)

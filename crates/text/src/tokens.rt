@@ -6,7 +6,7 @@ ghost use Rattle.text.specs.Scan.{Skipped, DigitsAt, single, Scanned, Next};
 use crate::classes::class_of;
 
 // A kind's number, the token's bytes from `from` up to `to`, and the value of a number or a variable.
-#[derive(Drop)]
+#[derive(Clone, Copy)]
 pub struct Token {
     pub kind: u8,
     pub from: usize,

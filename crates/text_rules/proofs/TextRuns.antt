@@ -1,9 +1,8 @@
 -- What the two programs over texts print, shown by computing it.
-use Prim.Native.Nat.{ℕ}
 use mathlib.Core.Path.{◌≡◌, refl}
-use mathlib.Core.List.{List, [], ◌∷◌, ◌++◌, map}
+use mathlib.Core.List.{[], ◌∷◌, ◌++◌, map}
 use mathlib.Core.Option.{some, none}
-use lib.ListN.{length, replicate}
+use lib.ListN.{replicate}
 use Rattle.text_rules.specs.TextProgram.{read_program, write_program}
 use Rattle.text_rules.specs.All.{rules}
 use Rattle.rules.proofs.Table.{bytes_l}

@@ -114,7 +114,7 @@ digits-few =
     by_digits (λ f n xs. (k : ℕ) → n < tens (suc k) → length (digits f n xs) ≤ suc k + length xs)
     (λ n xs k h. unfold digits in omega arith)
     (λ f n xs l k h. omega (arith, ap length (one-digit n f xs l)))
-    (λ f n xs l r. λ k. elim k [ zero ↦ λ h. absurd (omega arith) | suc k ↦ λ h. omega (arith, ap length (more-digits n f xs l), r k (omega arith)) ])
+    (λ f n xs l r. λ k. elim k as (λ j. n < tens (suc j) → length (digits (suc f) n xs) ≤ suc j + length xs) [ zero ↦ λ h. absurd (omega arith) | suc k ↦ λ h. omega (arith, ap length (more-digits n f xs l), r k (omega arith)) ])
 
 -- The longest front of bytes that pass a test.
 longest-front : (such : ℕ → Bool) (xs rest : List ℕ) → All (λ b. such b ≡ true) xs → longest such rest ≡ [] → longest such (xs ++ rest) ≡ xs
@@ -156,7 +156,7 @@ numeral-decimal (suc n) rest e = numeral-digits (suc (suc n)) (suc n) rest (omeg
 digits-first : (f n : ℕ) (xs : List ℕ) → 1 ≤ f + length xs → (b : ℕ) × (bs : List ℕ) × (digits f n xs ≡ b ∷ bs)
 digits-first =
     by_digits (λ f n xs. 1 ≤ f + length xs → (b : ℕ) × (bs : List ℕ) × (digits f n xs ≡ b ∷ bs))
-    (λ n xs. elim xs [ [] ↦ λ h. absurd (omega arith) | x ∷ xs ↦ λ h. (x, xs, (unfold digits in refl)) ])
+    (λ n xs. elim xs as (λ ys. 1 ≤ 0 + length ys → (b : ℕ) × (bs : List ℕ) × (digits 0 n ys ≡ b ∷ bs)) [ [] ↦ λ h. absurd (omega arith) | x ∷ xs ↦ λ h. (x, xs, (unfold digits in refl)) ])
     (λ f n xs l h. (48 + n, xs, one-digit n f xs l))
     (λ f n xs l r h. let s = r (omega arith) in (s.0, s.1, more-digits n f xs l ∙ s.2))
 

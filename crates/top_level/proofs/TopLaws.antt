@@ -18,7 +18,7 @@ use Rattle.rules.proofs.LevelLaws.{level-empty, level-spent, level-halts, level-
 use Rattle.report.specs.declared.Stop.TheVariants.{Finished, Budget, Answers}
 use Rattle.goals.specs.Store.{Holding, SomeFirst, mark_of}
 use Rattle.levels.specs.Levels.{account_of, paid_one, Stands, Turned}
-use Rattle.top_level.specs.Top.{Stored, Ordered, Topped, Started, started, opening, begun, evaluates, Lists, Goes, Stops, Bare, Waits, moved, Stepped, Due}
+use Rattle.top_level.specs.Top.{Stored, Ordered, Topped, Started, started, opening, begun, Lists, Goes, Stops, Bare, Waits, Stepped, Due}
 use Rattle.goals.specs.declared.Mark as declared
 use Rattle.top_level.specs.declared.Counts.{Counts}
 use Rattle.top_level.specs.declared.Progress.{Progress}

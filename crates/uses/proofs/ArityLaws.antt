@@ -15,7 +15,7 @@ use Rattle.text_rules.specs.TextGrammar.{item, unread, same_bytes}
 use Rattle.text_rules.specs.TextWords.{declarations, number_of, arity, has_arity, declared_at}
 use Rattle.text_rules.specs.TextWords as rules
 use Rattle.text_rules.specs.Text.{text_declarations}
-use Rattle.text.specs.Names.{last_with, name_at, is_name}
+use Rattle.text.specs.Names.{last_with, is_name}
 use Rattle.text.proofs.NameLaws.{bytes_same, last-below, last-passes}
 use Rattle.text.proofs.NumberLaws.{last_none}
 use Rattle.naming.specs.declared.declarations.Declaration.{Declaration}

@@ -9,7 +9,6 @@ use lib.ListN.{length, take}
 use lib.Dec.{leb, eqb}
 use borrow.Author.Tests.{eq-eqb, ne_eqb, eqb-true, le-leb}
 use Rattle.text_rules.specs.TextTokens.{Kind, name, number, variable, implies, invalid, kind_number, Class, no_class, space, letter, zero_digit, digit, underscore, colon, minus, mark, class_number, class_in, ranges, class_of, is_class, digit_byte, word_byte, longest, numeral, value, Token, token, at_most, number_token, variable_token, implies_token, token_from, end_token, tokens}
-use Rattle.text_rules.specs.TextGrammar.{is}
 use Rattle.text_rules.specs.TextWords.{commas}
 use Rattle.text.proofs.ClassLaws.{not-in-table}
 use Rattle.text.proofs.CountLaws.{count-inside, count-passed}

@@ -1,5 +1,5 @@
 -- Names that are used, in batches: up to 4,096 of them in a table, each once, with the numbers of their arguments.
-use Rattle.std.specs.Prelude.{ℕ, suc, ◌+◌, ◌≤◌, ◌<◌, ◌≡◌, Bool, true, false, List, [], ◌∷◌, length, get_or, drop, set, eqb}
+use Rattle.std.specs.Prelude.{ℕ, suc, ◌+◌, ◌≤◌, ◌<◌, ◌≡◌, Bool, true, false, List, [], ◌∷◌, length, get_or, drop, eqb}
 use Rattle.std.proofs.Math.Option.{some}
 use Rattle.text_rules.specs.TextTokens.{tokens}
 use Rattle.text_rules.specs.TextGrammar.{same_bytes}

@@ -1,5 +1,5 @@
 -- Uses of names, token by token.
-use Rattle.std.specs.Prelude.{ℕ, ◌-◌, ◌≤◌, ◌<◌, ◌≡◌, Bool, true, false, List, [], ◌∷◌, length, get_or, drop, eqb}
+use Rattle.std.specs.Prelude.{ℕ, ◌≤◌, ◌<◌, ◌≡◌, Bool, true, false, List, [], ◌∷◌, length, get_or, drop, eqb}
 use Rattle.std.proofs.Math.Option.{Option, none, some}
 use Rattle.text_rules.specs.TextTokens.{kind_number, Token, tokens}
 use Rattle.text_rules.specs.TextWords.{Declaration, given_arguments, number_of, has_arity, declared_at}

@@ -4,7 +4,7 @@ ghost use Rattle.text_rules.specs.TextTokens.{tokens};
 ghost use Rattle.uses.specs.Brackets.{MarkAt, Given, Fits, Stepped, Finished};
 
 // The pairs met, how many of them are open, and how many other ones are open in the last of these.
-#[derive(Drop)]
+#[derive(Clone, Copy)]
 pub struct Counting {
     pub met: usize,
     pub row: usize,

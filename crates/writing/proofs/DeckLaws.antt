@@ -7,7 +7,7 @@ use native.Mathlib.Omega.{arith}
 use lib.ListN.{length, drop, length-map}
 use lib.Seq.{sets, sets-eq}
 use borrow.Author.Tests.{le-leb, lt-leb}
-use Rattle.rules.specs.Syntax.{Clause, Deck, vars_literals}
+use Rattle.rules.specs.Syntax.{Deck, vars_literals}
 use Rattle.rules.specs.Refusals.{Refusal, no_room, refused, accepted, and_then, require}
 use Rattle.rules.specs.Decks.{header_fits, symbol_words, clause_words, term_cells, starts_fit, write_clause, open_deck}
 use Rattle.rules.specs.WellFormed.{All, clause_literals}

@@ -11,6 +11,12 @@ use std::time::{Duration, Instant};
 /// A run that takes longer has not returned.
 const MOST_TIME: Duration = Duration::from_secs(60);
 const NOBODY: u32 = 65_534;
+const CRATES: &str = concat!(env!("CARGO_MANIFEST_DIR"), "/../../crates");
+
+/// The program of that name in a folder, or else where `rt` builds it.
+pub fn built(folder: Option<&str>, name: &str) -> PathBuf {
+    folder.map_or(Path::new(CRATES).join(name).join("out"), PathBuf::from).join(name)
+}
 
 /// A copy of the program, and the folder that it is run in.
 pub struct Program {

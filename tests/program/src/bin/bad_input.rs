@@ -3,23 +3,21 @@
 //! evaluator's, byte for byte, its exit status 0, and it must return.
 
 use program::inputs::{bytes, deck, deck_of, largest_deck, long_listing, Inputs, L, X};
-use program::run::{Input, Program};
+use program::run::{built, Input, Program};
 use program::{cases, random, shape};
 use std::collections::BTreeMap;
 use std::fs::{self, File, Permissions};
 use std::io;
 use std::os::unix::fs::{symlink, PermissionsExt};
-use std::path::Path;
+use std::path::{Path, PathBuf};
 use std::time::Instant;
-
-const PROGRAM: &str = concat!(env!("CARGO_MANIFEST_DIR"), "/../../target/bin/leads");
 
 fn main() -> io::Result<()> {
     let mut arguments = std::env::args().skip(1);
-    let path = arguments.next().unwrap_or(PROGRAM.to_string());
+    let path = arguments.next().map_or(built(None, "leads"), PathBuf::from);
     let seeds = arguments.next().map_or(1_000, |text| text.parse().expect("a number"));
     let start = Instant::now();
-    let mut judge = Judge { program: Program::new(Path::new(&path))?, seen: BTreeMap::new() };
+    let mut judge = Judge { program: Program::new(&path)?, seen: BTreeMap::new() };
     files(&mut judge)?;
     standard_input(&mut judge)?;
     lengths(&mut judge)?;

@@ -2,7 +2,7 @@
 //! kinds. Standard output and the goals left must be the second evaluator's, byte for byte, the exit status 0, and they must return.
 
 use program::inputs::{bytes, L};
-use program::run::{Input, Program};
+use program::run::{built, Input, Program};
 use second::carry::program::{carry_program, open_program, Printed};
 use second::carry::vectors::parse;
 use second::carry::CarryCase;
@@ -10,17 +10,15 @@ use second::random::carries::carry_case;
 use second::random::case;
 use std::collections::BTreeMap;
 use std::io;
-use std::path::Path;
 use std::time::Instant;
 
-const BUILT: &str = concat!(env!("CARGO_MANIFEST_DIR"), "/../../target/bin");
 const VECTORS: &str = concat!(env!("CARGO_MANIFEST_DIR"), "/../vectors/carry_on.txt");
 /// The store of the programs, in words.
 const STORE: usize = 16_384;
 
 fn main() -> io::Result<()> {
     let mut arguments = std::env::args().skip(1);
-    let folder = arguments.next().unwrap_or(BUILT.to_string());
+    let folder = arguments.next();
     let seeds = arguments.next().map_or(300, |text| text.parse().expect("a number"));
     let start = Instant::now();
     let mut judge = Judge { folder, seen: BTreeMap::new() };
@@ -33,14 +31,14 @@ fn main() -> io::Result<()> {
 }
 
 struct Judge {
-    folder: String,
+    folder: Option<String>,
     /// First lines, and how often.
     seen: BTreeMap<String, usize>,
 }
 
 impl Judge {
     fn program(&self, name: &str) -> io::Result<Program> {
-        Program::new(&Path::new(&self.folder).join(name))
+        Program::new(&built(self.folder.as_deref(), name))
     }
 
     /// The bytes printed, and the goals left after a run that was not refused.

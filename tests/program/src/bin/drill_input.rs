@@ -2,25 +2,23 @@
 //! the second evaluator's, byte for byte, the exit status 0, and it must return.
 
 use program::inputs::{bytes, largest_deck, L};
-use program::run::{Input, Program};
+use program::run::{built, Input, Program};
 use second::drill::case::{bare, case};
 use second::drill::program::program;
 use second::drill::vectors::parse;
 use std::collections::BTreeMap;
 use std::fs;
 use std::io;
-use std::path::Path;
 use std::time::Instant;
 
-const BUILT: &str = concat!(env!("CARGO_MANIFEST_DIR"), "/../../target/bin");
 const VECTORS: &str = concat!(env!("CARGO_MANIFEST_DIR"), "/../vectors/drill.txt");
 
 fn main() -> io::Result<()> {
     let mut arguments = std::env::args().skip(1);
-    let folder = arguments.next().unwrap_or(BUILT.to_string());
+    let folder = arguments.next();
     let seeds = arguments.next().map_or(500, |text| text.parse().expect("a number"));
     let start = Instant::now();
-    let mut judge = Judge { program: Program::new(&Path::new(&folder).join("drill_terms"))?, seen: BTreeMap::new() };
+    let mut judge = Judge { program: Program::new(&built(folder.as_deref(), "drill_terms"))?, seen: BTreeMap::new() };
     judge.decks()?;
     judge.inputs()?;
     judge.cases(seeds)?;

@@ -2,27 +2,25 @@
 //! output must be the second evaluator's, byte for byte, the exit status 0, and they must return.
 
 use program::inputs::{bytes, largest_deck, L};
-use program::run::{Input, Program};
+use program::run::{built, Input, Program};
 use second::random::texts::{declared, nested, read_case, sized, write_case};
 use second::text::program::{read_program, write_program, MOST_TEXT_BYTES};
 use second::text::vectors::{parse_reads, parse_writes};
 use std::collections::BTreeMap;
 use std::fs;
 use std::io;
-use std::path::Path;
 use std::time::Instant;
 
-const BUILT: &str = concat!(env!("CARGO_MANIFEST_DIR"), "/../../target/bin");
 const VECTORS: &str = concat!(env!("CARGO_MANIFEST_DIR"), "/../vectors");
 
 fn main() -> io::Result<()> {
     let mut arguments = std::env::args().skip(1);
-    let folder = arguments.next().unwrap_or(BUILT.to_string());
+    let folder = arguments.next();
     let seeds = arguments.next().map_or(500, |text| text.parse().expect("a number"));
     let start = Instant::now();
     let mut seen = BTreeMap::new();
-    reading(&Judge::new(&folder, "read_text")?, seeds, &mut seen)?;
-    writing(&Judge::new(&folder, "write_text")?, seeds, &mut seen)?;
+    reading(&Judge::new(folder.as_deref(), "read_text")?, seeds, &mut seen)?;
+    writing(&Judge::new(folder.as_deref(), "write_text")?, seeds, &mut seen)?;
     let runs: usize = seen.values().sum();
     println!("{runs} runs of the programs over texts agree, {:.0?}: {seen:?}", start.elapsed());
     Ok(())
@@ -37,8 +35,8 @@ struct Judge {
 }
 
 impl Judge {
-    fn new(folder: &str, name: &'static str) -> io::Result<Judge> {
-        let program = Program::new(&Path::new(folder).join(name))?;
+    fn new(folder: Option<&str>, name: &'static str) -> io::Result<Judge> {
+        let program = Program::new(&built(folder, name))?;
         Ok(Judge { program, name })
     }
 

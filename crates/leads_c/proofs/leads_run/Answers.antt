@@ -1,0 +1,8 @@
+-- `leads_run`: what the run gives, and what is told of it.
+use Rattle.evaluation.specs.Results.{result_of}
+use Rattle.leads_c.proofs.leads_run.Goals as goal
+
+pub returns : goal.returns
+returns c =
+    let ran = c.run-ran in
+    record { result = result_of ran.result; gives = ran.ensures; tells = c.told.ensures }

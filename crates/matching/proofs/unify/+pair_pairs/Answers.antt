@@ -1,0 +1,155 @@
+-- `pair` and `pairs` meet their contracts. The measure is twice the number of equations that the unification takes, and 1 for `pairs`.
+-- Assumes nothing.
+use Prim.Native.Nat.{◌-◌}
+use native.Mathlib.Omega.{arith}
+use Rattle.matching.specs.Cells.{from}
+use Rattle.matching.specs.Bindings.{elims}
+use Rattle.matching.specs.Tables.{bind_of, trail_of}
+use Rattle.matching.proofs.SeenLaws.{opened, first-inside, args-enough, final-free, below}
+use Rattle.matching.proofs.RanLaws.{args-there, args-fewer, pair-differ, pair-right, pair_same, pair_left, ran-answer, ran-one, ran-none, ran-fails, ran_out, ran-args, none_left, first-fewer, rest-fewer, ran-rest, ran-stop, ran-break}
+use Rattle.matching.proofs.unify.+pair_pairs.Goals as goal
+
+pub pair-returns-then-left-eq0 : goal.pair-returns-then-left-eq0
+pair-returns-then-left-eq0 t c = ran_out c.requires c.if-left-eq0.true
+
+pub pair-overflow_sub-rest : goal.pair-overflow_sub-rest
+pair-overflow_sub-rest t c = omega (arith, c.if-left-eq0.false)
+
+pub pair-offset_bounds-cells-a : goal.pair-offset_bounds-cells-a
+pair-offset_bounds-cells-a t c = omega (arith, c.requires.left.inside, c.well_formed)
+
+pub pair-bounds-cells-a : goal.pair-bounds-cells-a
+pair-bounds-cells-a t c = c.requires.left.inside
+
+pub pair-overflow_cast-c : goal.pair-overflow_cast-c
+pair-overflow_cast-c t c = omega (arith, c.shared_slice_known-3-1.given c.args.a)
+
+pub pair-offset_bounds-cells-b : goal.pair-offset_bounds-cells-b
+pair-offset_bounds-cells-b t c = omega (arith, c.requires.right.inside, c.well_formed)
+
+pub pair-bounds-cells-b : goal.pair-bounds-cells-b
+pair-bounds-cells-b t c = c.requires.right.inside
+
+pub pair-overflow_cast-d : goal.pair-overflow_cast-d
+pair-overflow_cast-d t c = omega (arith, c.shared_slice_known-4-1.given c.args.b)
+
+pub pair-returns-then-c-d : goal.pair-returns-then-c-d
+pair-returns-then-c-d t c =
+    ran-none 1 (c.args.left - 1) c.requires.state (omega (arith, c.if-left-eq0.false)) (pair_same c.requires c.if-c-ge32768.true c.if-c-d.true)
+
+pub pair-eliminate-requires : goal.pair-eliminate-requires
+pair-eliminate-requires t c =
+    record {
+      state = c.requires.state;
+      free = final-free c.requires.state.good c.requires.left c.if-c-ge32768.true;
+      fact = c.requires.right;
+    }
+
+pub pair-returns-then-c-ge32768 : goal.pair-returns-then-c-ge32768
+pair-returns-then-c-ge32768 t c =
+    ran-one c.eliminate.ensures c.if-left-eq0.false (pair_left c.requires c.if-c-ge32768.true c.if-c-d.false)
+
+pub pair-eliminate-requires-then-d-ge32768 : goal.pair-eliminate-requires-then-d-ge32768
+pair-eliminate-requires-then-d-ge32768 t c =
+    record {
+      state = c.requires.state;
+      free = final-free c.requires.state.good c.requires.right c.if-d-ge32768.true;
+      fact = c.requires.left;
+    }
+
+pub pair-returns-then-d-ge32768 : goal.pair-returns-then-d-ge32768
+pair-returns-then-d-ge32768 t c =
+    ran-one c.eliminate-then-d-ge32768.ensures c.if-left-eq0.false (pair-right c.requires c.if-c-ge32768.false c.if-d-ge32768.true)
+
+pub pair-returns-then-c-d-2 : goal.pair-returns-then-c-d-2
+pair-returns-then-c-d-2 t c =
+    ran-fails 1 (c.args.left - 1) c.requires.state (omega (arith, c.if-left-eq0.false)) (pair-differ c.requires c.if-c-ge32768.false c.if-d-ge32768.false c.if-c-d-2.true)
+
+pub pair-arity_of-arity-requires : goal.pair-arity_of-arity-requires
+pair-arity_of-arity-requires t c =
+    c.requires.state.good.formed.known _ c.requires.left.inside
+
+pub pair-overflow_add-a : goal.pair-overflow_add-a
+pair-overflow_add-a t c =
+    omega (arith, c.requires.left.inside, c.well_formed)
+
+pub pair-overflow_add-b : goal.pair-overflow_add-b
+pair-overflow_add-b t c =
+    omega (arith, c.requires.right.inside, c.well_formed)
+
+pub pair-pairs-requires : goal.pair-pairs-requires
+pair-pairs-requires t c =
+    let a = c.arity_of-arity.ensures in
+    (below c.decreases (args-fewer c.requires _ a c.if-c-ge32768.false c.if-d-ge32768.false c.if-c-d-2.false), (c.requires.state, (args-enough c.requires.state.good _ a c.requires.left, args-there c.requires _ a c.if-c-d-2.false)))
+
+pub pair-returns : goal.pair-returns
+pair-returns t c =
+    ran-args c.requires _ c.arity_of-arity.ensures c.if-c-ge32768.false c.if-d-ge32768.false c.if-c-d-2.false c.pairs.ensures c.if-left-eq0.false
+
+pub pairs-returns-then-number-eq0 : goal.pairs-returns-then-number-eq0
+pairs-returns-then-number-eq0 t c =
+    let a = c.args in
+    ran-none 0 a.left c.requires.state (omega arith) (none_left (elims a.symbols.now a.cells.now (bind_of a.table.now) (trail_of a.table.now) a.n) (from a.symbols.now a.cells.now a.p) (from a.symbols.now a.cells.now a.q) a.number c.if-number-eq0.true)
+
+pub pairs-resolve-a-requires : goal.pairs-resolve-a-requires
+pairs-resolve-a-requires t c =
+    record {
+      good = c.requires.state.good;
+      p_in_bounds = first-inside _ _ c.args.p _ c.if-number-eq0.false c.requires.number_bound;
+    }
+
+pub pairs-resolve-b-requires : goal.pairs-resolve-b-requires
+pairs-resolve-b-requires t c =
+    record {
+      good = c.requires.state.good;
+      p_in_bounds = first-inside _ _ c.args.q _ c.if-number-eq0.false c.requires.number_bound_2;
+    }
+
+-- the first of the terms, and the others, on both sides: `opened` at what `resolve` says
+pub pairs-pair-first-requires : goal.pairs-pair-first-requires
+pairs-pair-first-requires t c =
+    let left = opened c.if-number-eq0.false c.requires.number_bound c.resolve-a.ensures in
+    let right = opened c.if-number-eq0.false c.requires.number_bound_2 c.resolve-b.ensures in
+    (below c.decreases (first-fewer left right), record { state = c.requires.state; left = left.final; right = right.final })
+
+pub pairs-after_first-p_next-requires : goal.pairs-after_first-p_next-requires
+pairs-after_first-p_next-requires t c =
+    record {
+      formed = c.requires.state.good.formed;
+      number_bound = c.requires.number_bound;
+    }
+
+pub pairs-after_first-q_next-requires : goal.pairs-after_first-q_next-requires
+pairs-after_first-q_next-requires t c =
+    record {
+      formed = c.requires.state.good.formed;
+      number_bound = c.requires.number_bound_2;
+    }
+
+pub pairs-overflow_sub-number : goal.pairs-overflow_sub-number
+pairs-overflow_sub-number t c = omega (arith, c.if-number-eq0.false)
+
+pub pairs-pairs-requires : goal.pairs-pairs-requires
+pairs-pairs-requires t c =
+    let left = opened c.if-number-eq0.false c.requires.number_bound c.resolve-a.ensures in
+    let right = opened c.if-number-eq0.false c.requires.number_bound_2 c.resolve-b.ensures in
+    let w = ran-answer c.pair-first.ensures c.in-Unified.is in
+    (below c.decreases (rest-fewer left right w c.after_first-p_next.ensures c.after_first-q_next.ensures), (w.state, (c.after_first-p_next.ensures.enough, c.after_first-q_next.ensures.enough)))
+
+pub pairs-returns-in-Unified : goal.pairs-returns-in-Unified
+pairs-returns-in-Unified t c =
+    let left = opened c.if-number-eq0.false c.requires.number_bound c.resolve-a.ensures in
+    let right = opened c.if-number-eq0.false c.requires.number_bound_2 c.resolve-b.ensures in
+    ran-rest left right (ran-answer c.pair-first.ensures c.in-Unified.is) c.after_first-p_next.ensures c.after_first-q_next.ensures c.pairs.ensures
+
+pub pairs-returns-in-Failed : goal.pairs-returns-in-Failed
+pairs-returns-in-Failed t c =
+    let left = opened c.if-number-eq0.false c.requires.number_bound c.resolve-a.ensures in
+    let right = opened c.if-number-eq0.false c.requires.number_bound_2 c.resolve-b.ensures in
+    ran-stop left right (ran-answer c.pair-first.ensures c.in-Failed.is)
+
+pub pairs-returns-in-Broken : goal.pairs-returns-in-Broken
+pairs-returns-in-Broken t c =
+    let left = opened c.if-number-eq0.false c.requires.number_bound c.resolve-a.ensures in
+    let right = opened c.if-number-eq0.false c.requires.number_bound_2 c.resolve-b.ensures in
+    ran-break left right (ran-answer c.pair-first.ensures c.in-Broken.is)

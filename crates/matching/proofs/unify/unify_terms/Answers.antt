@@ -1,0 +1,15 @@
+-- `unify_terms` meets its contract. Assumes nothing.
+use Rattle.matching.proofs.BindLaws.{ready-state}
+use Rattle.matching.proofs.RanLaws.{ran-ended}
+use Rattle.matching.proofs.unify.unify_terms.Goals as goal
+
+pub pairs-requires : goal.pairs-requires
+pairs-requires c =
+    record {
+      state = ready-state c.requires.ready c.requires.blank;
+      number_bound = c.requires.number_bound;
+      number_bound_2 = c.requires.number_bound_2;
+    }
+
+pub returns : goal.returns
+returns c = let a = c.args in ran-ended a.p a.q a.number c.pairs.ensures

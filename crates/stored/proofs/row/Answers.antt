@@ -1,0 +1,30 @@
+-- `row`: the scan from the start is the scan from `at`.
+use Prim.Native.Nat.{◌-◌}
+use mathlib.Core.Path.{sym, subst, ◌∙◌}
+use native.Mathlib.Omega.{arith}
+use lib.ListN.{length}
+use Rattle.deck.specs.Kinds.{symbols_of}
+use Rattle.stored.specs.Passing.{Stepped}
+use Rattle.stored.proofs.CellsLaws.{row_next, row-wrong, row-end, row-few}
+use Rattle.stored.proofs.row.Goals as goal
+
+pub returns-then-cells-terms : goal.returns-then-cells-terms
+returns-then-cells-terms c = sym (row-few (symbols_of c.args.symbols.now) c.args.cells.now c.args.terms 0 c.if-cells-terms.true)
+
+pub loop-at-preserved : goal.loop-at-preserved
+loop-at-preserved c =
+    let a = c.args in
+    let l = c.loop-at in
+    let w = subst (Stepped (length a.cells.now - l.at - 1) c.read.result l.todo l.next) c.in-On.is c.step.ensures in
+    let e = row_next (symbols_of a.symbols.now) a.cells.now l.at l.todo l.next c.loop-at-test.true c.read.result (length a.cells.now - l.at - 1) c.in-On.t c.in-On.n c.read.ensures w in
+    (omega (arith, c.loop-at-test.true), omega (arith, w.0), omega (arith, w.1), l.invariant.3 ∙ e)
+
+pub returns-in-Wrong : goal.returns-in-Wrong
+returns-in-Wrong c =
+    let a = c.args in
+    let l = c.loop-at in
+    let w = subst (Stepped (length a.cells.now - l.at - 1) c.read.result l.todo l.next) c.in-Wrong.is c.step.ensures in
+    sym (l.invariant.3 ∙ row-wrong (symbols_of a.symbols.now) a.cells.now l.at l.todo l.next c.loop-at-test.true c.read.result c.read.ensures w)
+
+pub returns : goal.returns
+returns c = sym (c.loop-at.invariant.3 ∙ row-end (symbols_of c.args.symbols.now) c.args.cells.now c.loop-at.at c.loop-at.todo c.loop-at.next c.loop-at-test.false c.loop-at.invariant.1)

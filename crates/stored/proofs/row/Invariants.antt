@@ -1,0 +1,13 @@
+-- `row`: the scan from the start is the scan from `at`.
+use Prim.Native.Nat.{◌-◌, ◌≤◌}
+use mathlib.Core.Path.{◌≡◌}
+use lib.ListN.{length, drop}
+use Rattle.deck.specs.Kinds.{symbols_of}
+use Rattle.deck.specs.Scan.{scan}
+use Rattle.stored.proofs.row.Given as goal
+
+abbrev pub invariant-loop-at : goal.invariant-loop-at
+invariant-loop-at l = (l.at ≤ length l.cells) × (l.todo ≤ length l.cells - l.at) × (l.next ≤ l.at) × (scan (symbols_of l.symbols) l.cells l.terms 0 ≡ scan (symbols_of l.symbols) (drop l.at l.cells) l.todo l.next)
+
+abbrev pub decreases-loop-at : goal.decreases-loop-at
+decreases-loop-at l = length l.cells - l.at
