@@ -1,7 +1,7 @@
 #!/usr/bin/env python3
 """Turns Proof.antt files that walk the code by places into Invariants.antt and Answers.antt.
 
-usage: conv.py CRATE_DIR NAMES_JSON [--only SUBSTR]
+usage: tools/convert_proofs.py CRATE_DIR NAMES_JSON [--only SUBSTR]
 NAMES_JSON is what `rt check --generated DIR --old-names` writes (while the Proof.antt files are there).
 """
 import json, os, re, sys
