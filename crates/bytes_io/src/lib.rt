@@ -3,12 +3,12 @@
 // The contracts name the bytes of a reader or a writer whose type tells them. What a file or standard input gives, no contract can say.
 #![tactic(auto)]
 
-ghost use Rattle.std.specs.Prelude.{◌≡◌, min, length, take, OnErr, IfOk};
+ghost use Rattle.std.specs.Prelude.{◌≡◌, ◌≤◌, min, length, take, IsNone, IfSome};
 ghost use Rattle.std.specs.Io.KnownBytes.{Consumes};
-ghost use Rattle.bytes_io.specs.Prefix.{IsPrefixLen, Begins};
+ghost use Rattle.bytes_io.specs.Prefix.{IsPrefixLen, file_bytes, front_bytes, TakesFrom};
 
 use std::fs;
-use std::io::{self, Read, Write};
+use std::io::{Read, Write};
 use std::rt::Files;
 
 // Reads until `bytes` is full, the input ends or a read fails. Returns how many bytes stand at the start of `bytes`: those that were taken from the input.
@@ -16,6 +16,7 @@ pub fn read_full<R: Read>(from: &mut R, bytes: &mut [u8]) -> usize
     ensures in_bounds { IsPrefixLen result bytes.new }
     ensures taken { Consumes (R.remaining from.old) (R.remaining from.new) (take result bytes.new) }
 {
+    // No `for`: the place moves by what each read gives.
     let mut done = 0;
     while done < bytes.len() {
         match from.read(&mut bytes[done..]) {
@@ -27,17 +28,32 @@ pub fn read_full<R: Read>(from: &mut R, bytes: &mut [u8]) -> usize
     done
 }
 
-// Reads the file, if it is open, and closes it. Returns how many bytes stand at the start of `bytes`: the file's first.
-pub fn contents<F: Read + Drop>(file: io::Result<F>, bytes: &mut [u8]) -> usize
-    ensures in_bounds { IsPrefixLen result bytes.new }
-    ensures first { IfOk file (λ f. Begins (F.remaining f) (take result bytes.new)) }
-    ensures none { OnErr file (result ≡ 0) }
-    ensures unchanged { OnErr file (bytes.new ≡ bytes.old) }
+// The bytes that `read_full` takes from the input.
+pub fn taken<'a, R: Read>(from: &mut R, bytes: &'a mut [u8]) -> &'a [u8]
+    ensures in_bounds { length result.now ≤ length bytes.old }
+    ensures taken { Consumes (R.remaining from.old) (R.remaining from.new) result.now }
 {
-    match file {
-        Ok(mut open) => read_full(&mut open, bytes),
-        Err(_) => 0,
-    }
+    let n = read_full(from, bytes);
+    &bytes[..n]
+}
+
+// Reads the file, if it is open, in the same way.
+pub fn read_file<F: Read>(file: &mut Option<F>, bytes: &mut [u8]) -> Option<usize>
+    ensures in_bounds { IfSome result (λ n. IsPrefixLen n bytes.new) }
+    ensures taken { TakesFrom F.remaining file.old file.new (front_bytes result bytes.new) }
+    ensures none { IsNone file.old → bytes.new ≡ bytes.old }
+{
+    let open = file.as_mut()?;
+    Some(read_full(open, bytes))
+}
+
+// The bytes that `read_file` takes from the file.
+pub fn contents<'a, F: Read>(file: &mut Option<F>, bytes: &'a mut [u8]) -> Option<&'a [u8]>
+    ensures in_bounds { IfSome result (λ taken. length taken.now ≤ length bytes.old) }
+    ensures taken { TakesFrom F.remaining file.old file.new (file_bytes result) }
+{
+    let n = read_file(file, bytes)?;
+    Some(&bytes[..n])
 }
 
 // So many, but no more than there are of `bytes`.
@@ -53,19 +69,16 @@ pub fn keep(rt: &impl Files, path: &str, bytes: &[u8]) {
     if bytes.is_empty() {
         return;
     }
-    match fs::create(rt, path) {
-        Ok(mut file) => {
-            if file.write_all(bytes).is_err() {
-                let _ = fs::remove_file(rt, path);
-            }
+    if let Ok(mut file) = fs::create(rt, path) {
+        if file.write_all(bytes).is_err() {
+            let _ = fs::remove_file(rt, path);
         }
-        Err(_) => {}
     }
 }
 
 #[cfg(test)]
 mod tests {
-    use super::{contents, count, read_full};
+    use super::{contents, count, read_file, read_full, taken};
     use std::io::{self, Error, ErrorKind, Read};
 
     // A byte at a time, so many, and then a read that fails.
@@ -111,19 +124,38 @@ mod tests {
     #[test]
     fn until_a_failure(rt: HostRuntime) {
         let mut bytes = [0u8; 4];
-        let n = contents(Ok(Failing { left: 3 }), &mut bytes);
-        assert!(rt; n == 3, "{n} bytes");
+        let n = read_file(&mut Some(Failing { left: 3 }), &mut bytes);
+        assert!(rt; n == Some(3), "{n:?} bytes");
         assert!(rt; bytes[0] == 3, "{bytes:?}");
         assert!(rt; bytes[2] == 1, "{bytes:?}");
     }
 
     #[test]
     fn no_file(rt: HostRuntime) {
-        let missing: io::Result<Failing> = Err(Error::from(ErrorKind::NotFound));
+        let mut missing: Option<Failing> = None;
         let mut bytes = [7u8; 4];
-        let n = contents(missing, &mut bytes);
-        assert!(rt; n == 0, "{n} bytes");
+        let n = read_file(&mut missing, &mut bytes);
+        assert!(rt; n.is_none(), "{n:?} bytes");
+        assert!(rt; bytes[0] == 7, "{bytes:?}");
         let most = count(9, &bytes);
         assert!(rt; most == 4, "{most}");
+    }
+
+    // The file is lent, and stands behind what was taken from it.
+    #[test]
+    fn file_after_its_start(rt: HostRuntime) {
+        let mut file: Option<&[u8]> = Some(b"abcde");
+        let mut bytes = [0u8; 2];
+        let first = contents(&mut file, &mut bytes);
+        assert!(rt; first == Some(b"ab".as_slice()), "{first:?}");
+        assert!(rt; file == Some(b"cde".as_slice()), "{file:?}");
+    }
+
+    #[test]
+    fn bytes_taken(rt: HostRuntime) {
+        let mut from: &[u8] = b"abc";
+        let mut bytes = [7u8; 9];
+        let all = taken(&mut from, &mut bytes);
+        assert!(rt; all == b"abc".as_slice(), "{all:?}");
     }
 }

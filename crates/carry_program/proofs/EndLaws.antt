@@ -11,22 +11,28 @@ use Rattle.rules.specs.Run.{report}
 use Rattle.rules.specs.Run as run
 use Rattle.rules.specs.CarryProgram.{Kept, kept_listing, kept_goals}
 use Rattle.report.specs.declared.Report.{Report}
-use Rattle.deck.proofs.RefusalLaws.{number_small}
 use Rattle.listing.specs.Put.{Put}
 use Rattle.listing.specs.Printed.{Printed}
 use Rattle.listing.specs.Shown.{Shown}
-use Rattle.listing.proofs.PrintedLaws.{put-printed, line-printed}
-use Rattle.carry_program.specs.Ends.{Both, goals_bytes}
+use Rattle.listing.proofs.PrintedLaws.{put-printed}
+use Rattle.std.specs.Prelude.{Result, Ok, Err}
+use Rattle.deck.specs.declared.Refusal.{Refusal as Why}
+use Rattle.carry_program.specs.declared.output.Outputs.{Outputs}
+use Rattle.carry_program.specs.Ends.{Leaves, PrintsOrRefuses}
+use Rattle.carry_program.specs.Finished.{Both, goals_bytes}
+
+-- The outputs of a run, or the line of the refusal in their place.
+pub Leaves-or_refusal :
+    (c : Checked Kept) (out left : List ℕ) (r : Result Outputs Why) (out₁ left₁ : List ℕ) (m : Outputs) (out₂ : List ℕ)
+    → Leaves c out left r out₁ left₁ → PrintsOrRefuses r out₁ m out₂ → Both c out left m.listing m.goals out₂ left₁
+unfolding kept_listing listing kept_goals
+Leaves-or_refusal c out left (Ok n) out₁ left₁ m out₂ p q = rw (q.0, q.1) p
+Leaves-or_refusal c out left (Err why) out₁ left₁ m out₂ p q = rw (p.0, p.2, q.1) (record {
+  listing = rw p.1 at q.0;
+  goals = record { number = refl; bytes = refl };
+})
 
 module _ {out left : List ℕ} {end : ℕ} {after : List ℕ} (c : Checked Kept) where
-  -- A refusal leaves the goals' bytes as they were.
-  pub refusal-both : (n : Refusal) → c ≡ refused n → Put out 0 (listing (refused n)) end after → 19 ≤ length out → Both c out left end 0 after left
-  unfolding kept_listing kept_goals
-  refusal-both n e p h = rw e (record {
-    listing = line-printed n (omega (arith, number_small n)) p h;
-    goals = record { number = refl; bytes = refl };
-  })
-
   pub kept-both : {end' : ℕ} {left' : List ℕ} (k : Kept) → c ≡ accepted k → Put out 0 (listing (accepted k.outcome)) end after → end ≤ length out
       → Printed (goals_bytes k.outcome k.terms) left end' left' → Both c out left end end' after left'
   unfolding kept_listing kept_goals

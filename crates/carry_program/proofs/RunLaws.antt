@@ -14,7 +14,7 @@ use Rattle.rules.specs.Loose.{tight_clauses, tight_query, check_tight, check_tig
 use Rattle.rules.specs.Goals.{Marked, first_goal, variables, query_variables}
 use Rattle.rules.specs.Stored.{read_open}
 use Rattle.rules.specs.Evaluation.{Outcome, evaluate}
-use Rattle.rules.specs.Run.{run, run_on, carry, carry_on, carry_from, report, store_start, Slices, Filled, Leaves, Ran, RanOn}
+use Rattle.rules.specs.Run.{run, run_on, carry, carry_on, carry_from, Report, report, store_start, Slices, Filled, Leaves, Ran, RanOn}
 use Rattle.rules.specs.Program.{words_from, query_input}
 use Rattle.rules.specs.CarryProgram.{Kept, number_from, deck_input, open_words, open_run, goals_input, store_from, carry_bytes, carry_run}
 use Rattle.rules.specs.WellFormed.{All, WfGoal, WfMarked}
@@ -29,17 +29,12 @@ use Rattle.report.specs.Reports.{report_of}
 use Rattle.report.specs.declared.Report as code
 use Rattle.resolvents.specs.Selecting.{GoalCells}
 use Rattle.top_level.proofs.FirstLaws.{query-cells}
-use Rattle.deck.specs.Answers.{refusal_for}
-use Rattle.evaluation.specs.Results.{result_of}
-use Rattle.evaluation.specs.declared.Ran as ran
-use Rattle.evaluation.specs.declared.Ran.TheVariants as variant
 use Rattle.listing.specs.Shown.{Shown}
 use Rattle.listing.specs.Put.{Put}
 use Rattle.listing.proofs.RunLaws.{evaluated-shown}
 use Rattle.listing.proofs.PrintedLaws.{put-printed}
-use Rattle.program.proofs.PartLaws.{Buffers, returned-refused, returned-accepted}
-use Rattle.program.proofs.InputLaws.{then-refused, then_next}
-use Rattle.carry_program.specs.Ends.{LeftOpen, Finished, Ended}
+use Rattle.program.proofs.PartLaws.{Buffers, returned-refused, returned-accepted, and_then-refused, and_then-accepted}
+use Rattle.carry_program.specs.Finished.{LeftOpen, Finished}
 
 -- WHAT IS LEFT by an evaluation of goals of so many answer terms: answers that can be listed, and a store that begins with open goals.
 module _ (deck_words : List ℕ) (deck : Deck) (opens : open_deck deck_words ≡ accepted deck) (terms budget : ℕ) (gs : List Goal) (ms : List Marked)
@@ -91,7 +86,7 @@ module _ (deck_words query_words : List ℕ) (budget : ℕ) (entry exit : Slices
 
   pub open-refused : (n : Refusal) → Ran deck_words query_words budget entry (refused n) exit → open_words deck_words query_words budget ≡ refused n
   unfolding open_words
-  open-refused n r = then-refused (run deck_words query_words budget 8192 16384 8192) _ n (same-run ∙ returned-refused _ n r.returns)
+  open-refused n r = and_then-refused (run deck_words query_words budget 8192 16384 8192) _ n (same-run ∙ returned-refused _ n r.returns)
 
   pub open_done : (r : code.Report) (terms : ℕ)
       → ((ar : List ℕ) (answers : ℕ) (S : List Symbol) (g : Goal) → GoalCells ar query_words answers S g → terms ≡ top_goal g)
@@ -113,14 +108,9 @@ module _ (deck_words query_words : List ℕ) (budget : ℕ) (entry exit : Slices
       } in
       let checks : check_query deck_words query_words ≡ accepted a.query = query-checked deck_words query_words a.deck a.query a.opens a.asks a.tight_deck a.tight_asked in
       let comes : open_words deck_words query_words budget ≡ accepted (record { outcome = o; terms = terms }) =
-      then_next (run deck_words query_words budget 8192 16384 8192) _ o (same-run ∙ t.1) ∙ then_next (check_query deck_words query_words) _ a.query checks
+      and_then-accepted (run deck_words query_words budget 8192 16384 8192) _ o (same-run ∙ t.1) ∙ and_then-accepted (check_query deck_words query_words) _ a.query checks
       ∙ ap {B = Checked Kept} (λ (n : ℕ). accepted (record { outcome = o; terms = n })) (sym named) in
       finished deck_words a.deck a.opens terms budget (first_goal a.query ∷ []) [] (first, tt) tt entry exit o a.evaluates left (open_words deck_words query_words budget) comes r t.2
-
-  pub open-ended : (x : ran.Ran) (terms : ℕ) → ((ar : List ℕ) (answers : ℕ) (S : List Symbol) (g : Goal) → GoalCells ar query_words answers S g → terms ≡ top_goal g)
-      → Ran deck_words query_words budget entry (result_of x) exit → Ended (open_words deck_words query_words budget) deck_words terms exit.answers exit.store x
-  open-ended (variant.Refused why) terms many r = open-refused (refusal_for why) r
-  open-ended (variant.Done report) terms many r = open_done report terms many r
 
 -- RUNS THAT CARRY ON
 words-few : (bytes : List ℕ) → 2 * length (words_from bytes) ≤ length bytes
@@ -156,7 +146,7 @@ module _ (deck_words bytes : List ℕ) (budget : ℕ) (entry exit : Slices) (b :
   pub carry-refused : (n : Refusal) → RanOn deck_words pending parked terms budget entry (refused n) exit → carry_bytes deck_words bytes budget ≡ refused n
   unfolding carry_bytes
   carry-refused n r =
-      then-refused (carry_on (carry deck_words pending parked terms (store_from (words_from (drop 24 bytes))) 8192) budget 8192 16384) _ n (same-carry ∙ returned-refused _ n r.returns)
+      and_then-refused (carry_on (carry deck_words pending parked terms (store_from (words_from (drop 24 bytes))) 8192) budget 8192 16384) _ n (same-carry ∙ returned-refused _ n r.returns)
 
   pub carry-done : (r : code.Report) → RanOn deck_words pending parked terms budget entry (accepted (report_of r)) exit
       → Finished (carry_bytes deck_words bytes budget) deck_words terms exit.answers exit.store r
@@ -168,45 +158,41 @@ module _ (deck_words bytes : List ℕ) (budget : ℕ) (entry exit : Slices) (b :
       let a = carry-accepted deck_words pending parked terms budget (length entry.answers) entry.store (length entry.scratch) o t.1 in
       let q = open-reads a.deck.symbols pending parked terms entry.store a.goals a.carries in
       let comes : carry_bytes deck_words bytes budget ≡ accepted (record { outcome = o; terms = terms }) =
-      then_next (carry_on (carry deck_words pending parked terms (store_from (words_from (drop 24 bytes))) 8192) budget 8192 16384) _ o (same-carry ∙ t.1) in
+      and_then-accepted (carry_on (carry deck_words pending parked terms (store_from (words_from (drop 24 bytes))) 8192) budget 8192 16384) _ o (same-carry ∙ t.1) in
       finished deck_words a.deck a.opens terms budget a.goals.pending a.goals.parked q.pending q.parked entry exit o a.evaluates left (carry_bytes deck_words bytes budget) comes r t.2
 
-  came : (x : ran.Ran) → RanOn deck_words pending parked terms budget entry (result_of x) exit
-      → Ended (carry_bytes deck_words bytes budget) deck_words terms exit.answers exit.store x
-  came (variant.Refused why) r = carry-refused (refusal_for why) r
-  came (variant.Done report) r = carry-done report r
-
-  pub carry-ended : (x : ran.Ran) (p q t : ℕ) → p ≡ pending → q ≡ parked → t ≡ terms → RanOn deck_words p q t budget entry (result_of x) exit
-      → Ended (carry_bytes deck_words bytes budget) deck_words t exit.answers exit.store x
-  carry-ended x p q t e f g r =
-      subst (λ (n : ℕ). Ended (carry_bytes deck_words bytes budget) deck_words n exit.answers exit.store x) (sym g)
-      (came x (subst (λ (n : ℕ). RanOn deck_words pending parked n budget entry (result_of x) exit) g
-      (subst (λ (n : ℕ). RanOn deck_words pending n t budget entry (result_of x) exit) f
-      (subst (λ (n : ℕ). RanOn deck_words n q t budget entry (result_of x) exit) e r))))
+-- The same of numbers that are those of the file.
+module _ (deck_words bytes : List ℕ) (budget p q t : ℕ) (e : p ≡ number_from 8 bytes) (f : q ≡ number_from 8 (drop 8 bytes)) (g : t ≡ number_from 8 (drop 16 bytes)) (result : Checked Report)
+    (entry exit : Slices) where
+  pub numbered : RanOn deck_words p q t budget entry result exit
+      → RanOn deck_words (number_from 8 bytes) (number_from 8 (drop 8 bytes)) (number_from 8 (drop 16 bytes)) budget entry result exit
+  numbered r = subst (λ (n : ℕ). RanOn deck_words (number_from 8 bytes) (number_from 8 (drop 8 bytes)) n budget entry result exit) g
+      (subst (λ (n : ℕ). RanOn deck_words (number_from 8 bytes) n t budget entry result exit) f
+      (subst (λ (n : ℕ). RanOn deck_words n q t budget entry result exit) e r))
 
 -- THE PROGRAMS, test by test
 module _ (file : Option (List ℕ)) (budget : ℕ) where
-  pub open-no-deck : (input : List ℕ) (n : Refusal) → deck_input file ≡ refused n → open_run file input budget ≡ refused n
+  pub open_run-deck : (input : List ℕ) (n : Refusal) → deck_input file ≡ refused n → open_run file input budget ≡ refused n
   unfolding open_run
-  open-no-deck input n e = then-refused (deck_input file) _ n e
+  open_run-deck input n e = and_then-refused (deck_input file) _ n e
 
-  pub carry-no-deck : (goals : Option (List ℕ)) (n : Refusal) → deck_input file ≡ refused n → carry_run file goals budget ≡ refused n
+  pub carry_run-deck : (goals : Option (List ℕ)) (n : Refusal) → deck_input file ≡ refused n → carry_run file goals budget ≡ refused n
   unfolding carry_run
-  carry-no-deck goals n e = then-refused (deck_input file) _ n e
+  carry_run-deck goals n e = and_then-refused (deck_input file) _ n e
 
   module _ (deck_words : List ℕ) (d : deck_input file ≡ accepted deck_words) where
-    pub open-no-query : (input : List ℕ) (n : Refusal) → query_input input ≡ refused n → open_run file input budget ≡ refused n
+    pub open_run-query : (input : List ℕ) (n : Refusal) → query_input input ≡ refused n → open_run file input budget ≡ refused n
     unfolding open_run
-    open-no-query input n e = then_next (deck_input file) _ deck_words d ∙ then-refused (query_input input) _ n e
+    open_run-query input n e = and_then-accepted (deck_input file) _ deck_words d ∙ and_then-refused (query_input input) _ n e
 
-    pub open-asked : (input query_words : List ℕ) → query_input input ≡ accepted query_words → open_run file input budget ≡ open_words deck_words query_words budget
+    pub open_run-words : (input query_words : List ℕ) → query_input input ≡ accepted query_words → open_run file input budget ≡ open_words deck_words query_words budget
     unfolding open_run
-    open-asked input query_words e = then_next (deck_input file) _ deck_words d ∙ then_next (query_input input) _ query_words e
+    open_run-words input query_words e = and_then-accepted (deck_input file) _ deck_words d ∙ and_then-accepted (query_input input) _ query_words e
 
-    pub carry-no-goals : (goals : Option (List ℕ)) (n : Refusal) → goals_input goals ≡ refused n → carry_run file goals budget ≡ refused n
+    pub carry_run-goals : (goals : Option (List ℕ)) (n : Refusal) → goals_input goals ≡ refused n → carry_run file goals budget ≡ refused n
     unfolding carry_run
-    carry-no-goals goals n e = then_next (deck_input file) _ deck_words d ∙ then-refused (goals_input goals) _ n e
+    carry_run-goals goals n e = and_then-accepted (deck_input file) _ deck_words d ∙ and_then-refused (goals_input goals) _ n e
 
-    pub carry-from : (goals : Option (List ℕ)) (bytes : List ℕ) → goals_input goals ≡ accepted bytes → carry_run file goals budget ≡ carry_bytes deck_words bytes budget
+    pub carry_run-bytes : (goals : Option (List ℕ)) (bytes : List ℕ) → goals_input goals ≡ accepted bytes → carry_run file goals budget ≡ carry_bytes deck_words bytes budget
     unfolding carry_run
-    carry-from goals bytes e = then_next (deck_input file) _ deck_words d ∙ then_next (goals_input goals) _ bytes e
+    carry_run-bytes goals bytes e = and_then-accepted (deck_input file) _ deck_words d ∙ and_then-accepted (goals_input goals) _ bytes e

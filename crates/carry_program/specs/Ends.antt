@@ -1,67 +1,21 @@
--- What is known of a run that has ended, and the two outputs of a program that keeps its open goals.
-use Rattle.std.specs.Prelude.{ℕ, ◌≡◌, List, length}
-use Rattle.std.proofs.Math.Option.{some}
-use Rattle.rules.specs.Syntax.{Deck}
-use Rattle.rules.specs.Refusals.{Checked, refused, accepted}
-use Rattle.rules.specs.Decks.{symbol_words, open_deck}
-use Rattle.rules.specs.Stored.{read_open}
-use Rattle.rules.specs.Evaluation.{Outcome}
-use Rattle.rules.specs.CarryProgram.{Kept, kept_listing, kept_goals}
-use Rattle.report.specs.declared.Report.{Report}
+-- The two outputs of a program that keeps its open goals, and its refusals.
+use Rattle.std.specs.Prelude.{ℕ, ◌≡◌, List, Result, Ok, Err}
+use Rattle.rules.specs.Refusals.{Checked, refused}
+use Rattle.rules.specs.Listing.{listing}
+use Rattle.rules.specs.CarryProgram.{Kept}
+use Rattle.deck.specs.declared.Refusal.{Refusal}
 use Rattle.deck.specs.Answers.{refusal_for}
 use Rattle.listing.specs.Printed.{Printed}
-use Rattle.listing.specs.Shown.{Shown}
-use Rattle.evaluation.specs.declared.Ran.{Ran}
-use Rattle.evaluation.specs.declared.Ran.TheVariants.{Refused, Done}
+use Rattle.carry_program.specs.declared.output.Outputs.{Outputs}
+use Rattle.carry_program.specs.Finished as finished
+pub use Rattle.carry_program.specs.Finished.{Both}
 
--- The listing and the goals left stand at the start of the two outputs, n and m bytes of them.
-pub record Both (c : Checked Kept) (out left : List ℕ) (n m : ℕ) (out' left' : List ℕ) : Type 0 where
-  pub listing : Printed (kept_listing c) out n out'
-  pub goals : Printed (kept_goals c) left m left'
+-- Both outputs of what checks and a run come to; or nothing yet, and the refusal is returned.
+abbrev pub Leaves : Checked Kept → List ℕ → List ℕ → Result Outputs Refusal → List ℕ → List ℕ → Type 0
+Leaves c out left (Ok outputs) out' left' = Both c out left outputs.listing outputs.goals out' left'
+Leaves c out left (Err why) out' left' = (c ≡ refused (refusal_for why)) × (out' ≡ out) × (left' ≡ left)
 
--- The bytes of the goals that an outcome leaves.
-abbrev pub goals_bytes : Outcome → ℕ → List ℕ
-goals_bytes o terms = kept_goals (accepted (record { outcome = o; terms = terms }))
-
--- The store begins with the goals that an outcome leaves open.
-pub record LeftOpen (o : Outcome) (deck_words : List ℕ) (terms : ℕ) (store : List ℕ) : Type 0 where
-  pub deck : Deck
-  pub opens : open_deck deck_words ≡ accepted deck
-  pub reads : read_open deck.symbols (length o.pending) (length o.parked) terms store ≡ some (record { pending = o.pending; parked = o.parked })
-
-abbrev pub Counted : Outcome → ℕ → ℕ → List ℕ → ℕ → List ℕ → Type 0
-Counted o pending parked deck_words terms store = (length o.pending ≡ pending) × (length o.parked ≡ parked) × LeftOpen o deck_words terms store
-
--- A run that came to c was not refused, and left these answers and this store.
-pub record Finished (c : Checked Kept) (deck_words : List ℕ) (terms : ℕ) (answers store : List ℕ) (r : Report) : Type 0 where
-  pub outcome : Outcome
-  pub comes : c ≡ accepted (record { outcome = outcome; terms = terms })
-  pub shown : Shown outcome r answers (symbol_words deck_words)
-  pub left : LeftOpen outcome deck_words terms store
-
--- The same of a run that was refused or not.
-abbrev pub Ended : Checked Kept → List ℕ → ℕ → List ℕ → List ℕ → Ran → Type 0
-Ended c deck_words terms answers store (Refused why) = c ≡ refused (refusal_for why)
-Ended c deck_words terms answers store (Done r) = Finished c deck_words terms answers store r
-
--- The promises of the functions that print such a run, whatever it came to.
-module _ (deck_words : List ℕ) (terms : ℕ) (answers store : List ℕ) where
-  abbrev pub SomeEnded : Ran → Type 0
-  SomeEnded ran = (c : Checked Kept) × Ended c deck_words terms answers store ran
-
-  abbrev pub EndedPrinted : Ran → List ℕ → List ℕ → ℕ → ℕ → List ℕ → List ℕ → Type 0
-  EndedPrinted ran out left n m out' left' = (c : Checked Kept) → Ended c deck_words terms answers store ran → Both c out left n m out' left'
-
-  abbrev pub SomeFinished : Report → Type 0
-  SomeFinished r = (c : Checked Kept) × Finished c deck_words terms answers store r
-
-  abbrev pub FinishedPrinted : Report → List ℕ → List ℕ → ℕ → ℕ → List ℕ → List ℕ → Type 0
-  FinishedPrinted r out left n m out' left' = (c : Checked Kept) → Finished c deck_words terms answers store r → Both c out left n m out' left'
-
--- The same of the goals left alone.
-module _ (pending parked : ℕ) (deck_words : List ℕ) (terms : ℕ) (store : List ℕ) where
-  abbrev pub SomeCounted : Type 0
-  SomeCounted = (o : Outcome) × Counted o pending parked deck_words terms store
-
-  abbrev pub CountedPrinted : List ℕ → ℕ → List ℕ → Type 0
-  CountedPrinted left end left' = (o : Outcome) → Counted o pending parked deck_words terms store → Printed (goals_bytes o terms) left end left'
+-- The listing stays as it is, or is the refusal's line.
+abbrev pub PrintsOrRefuses : Result Outputs Refusal → List ℕ → Outputs → List ℕ → Type 0
+PrintsOrRefuses (Ok outputs) out result out' = (result ≡ outputs) × (out' ≡ out)
+PrintsOrRefuses (Err why) out result out' = Printed (listing (refused (refusal_for why))) out result.listing out' × (result.goals ≡ 0)

@@ -1,34 +1,31 @@
-// The budget, and the numbers and the refusal of a file of goals.
-ghost use Rattle.std.specs.Prelude.{◌≡◌, ◌+◌, ◌*◌, ◌≤◌, ◌<◌, min, length, drop};
-ghost use Rattle.rules.specs.Refusals.{checked_number};
+// The budget, and the numbers of a file of goals.
+ghost use Rattle.std.specs.Prelude.{◌≡◌, ◌+◌, ◌*◌, ◌≤◌, min, length, drop, IfOk};
 ghost use Rattle.rules.specs.CarryProgram.{budget_after, budget_from, number_from, goals_input};
 ghost use Rattle.listing.specs.Printed.{file_of};
+ghost use Rattle.program_parts.specs.Answers.{ComesTo};
 
-// The budget that a text of digits is, or 100,000.
-pub fn budget(present: bool, text: &[u8]) -> u32
-    ensures { result ≡ budget_from (file_of present text.now) }
+use deck::Refusal;
+
+// The budget that a text of digits is, or 100,000 where there is none.
+pub fn budget(text: Option<&[u8]>) -> u32
+    ensures { result ≡ budget_from (file_of text.entry) }
 {
-    if present {
-        return digits(text);
+    match text {
+        Some(text) => digits(text),
+        None => 100000,
     }
-    100000
 }
 
+// The number of the digits before the first other byte, or the greatest of 32 bits.
 fn digits(text: &[u8]) -> u32
     ensures { result ≡ budget_after 0 text.now }
 {
     let mut n = 0;
-    let mut i = 0;
-    while i < text.len() {
-        let byte = text[i];
-        if byte < 48 {
+    for &byte in text {
+        if !byte.is_ascii_digit() {
             return n;
         }
-        if 57 < byte {
-            return n;
-        }
-        n = with_digit(n, byte - 48);
-        i += 1;
+        n = with_digit(n, byte - b'0');
     }
     n
 }
@@ -36,32 +33,24 @@ fn digits(text: &[u8]) -> u32
 fn with_digit(n: u32, digit: u8) -> u32
     ensures { result ≡ min (10 * n + digit) 4294967295 }
 {
-    let more = 10 * (n as u64) + digit as u64;
-    if more < 4294967295 {
-        more as u32
-    } else {
-        4294967295
-    }
+    n.saturating_mul(10).saturating_add(u32::from(digit))
 }
 
-// Refusal 12 of a file of goals by its length; 0 where there is a file of a possible length.
-pub fn goals_refusal(present: bool, bytes: &[u8]) -> u32
-    ensures { result ≡ checked_number (goals_input (file_of present bytes.now)) }
+// The bytes of a file of goals, if there is one, of a possible length: else refusal 12.
+pub fn goals_file(file: Option<&[u8]>) -> Result<&[u8], Refusal>
+    ensures comes { ComesTo (goals_input (file_of file.entry)) result }
+    ensures length { IfOk result (λ bytes. (24 ≤ length bytes.now) × (length bytes.now ≤ 32792)) }
 {
-    if !present {
-        return 12;
+    let Some(bytes) = file else {
+        return Err(Refusal::Goals);
+    };
+    if bytes.len() % 2 != 0 {
+        return Err(Refusal::Goals);
     }
-    let odd = bytes.len() % 2;
-    if odd != 0 {
-        return 12;
+    if bytes.len() < 24 || 32792 < bytes.len() {
+        return Err(Refusal::Goals);
     }
-    if bytes.len() < 24 {
-        return 12;
-    }
-    if 32792 < bytes.len() {
-        return 12;
-    }
-    0
+    Ok(bytes)
 }
 
 // The number of 64 bits at a place, low byte first.
@@ -69,23 +58,6 @@ pub fn number(bytes: &[u8], at: usize) -> u64
     requires { at + 8 ≤ length bytes.now }
     ensures { result ≡ number_from 8 (drop at bytes.now) }
 {
-    half(bytes, at) + 4294967296 * half(bytes, at + 4)
-}
-
-// The number of 32 bits at a place.
-fn half(bytes: &[u8], at: usize) -> u64
-    requires { at + 4 ≤ length bytes.now }
-    ensures { (result ≡ number_from 4 (drop at bytes.now)) × (result < 4294967296) }
-{
-    let a = wide(bytes[at]);
-    let b = wide(bytes[at + 1]);
-    let c = wide(bytes[at + 2]);
-    let d = wide(bytes[at + 3]);
-    a + 256 * (b + 256 * (c + 256 * d))
-}
-
-fn wide(byte: u8) -> u64
-    ensures { (result ≡ byte) × (result < 256) }
-{
-    byte as u64
+    let eight = <[u8; 8]>::try_from(&bytes[at..at + 8]).unwrap();
+    u64::from_le_bytes(eight)
 }

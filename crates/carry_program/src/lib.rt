@@ -6,111 +6,118 @@ ghost use Rattle.std.specs.Prelude.{◌≤◌, length};
 ghost use Rattle.std.proofs.Math.Option.{some};
 ghost use Rattle.rules.specs.CarryProgram.{budget_from, open_words, open_run, carry_bytes, carry_run};
 ghost use Rattle.listing.specs.Printed.{file_of};
-ghost use Rattle.carry_program.specs.Ends.{Both};
+ghost use Rattle.carry_program.specs.Ends.{Both, Leaves};
 
-use input::{budget, goals_refusal, number};
+use deck::Refusal;
+use ending::Ending;
+use input::{budget, goals_file, number};
 use listing::input::read_words;
-use listing::put_refusal;
-use output::ended;
-use program::input::{deck_refusal, query_refusal};
+use output::{Outputs, or_refusal};
+use program::input::{opened_deck, query_words};
 use resolvents::fresh::variables;
 
+mod ending;
 mod input;
-mod output;
-
-// How many bytes there are of the listing, and of the goals left: 0 after a refusal.
-#[derive(Drop)]
-pub struct Outputs {
-    pub listing: usize,
-    pub goals: usize,
-}
+pub mod output;
 
 // As the program, with a budget in a file, if there is one, and with the goals left. Both outputs begin with their bytes, and their other bytes stay.
 pub fn open_printed(
-    present: bool,
-    deck: &[u8],
+    deck: Option<&[u8]>,
     query: &[u8],
-    limited: bool,
-    limit: &[u8],
+    limit: Option<&[u8]>,
     out: &mut [u8; 65605],
     left: &mut [u8; 32792],
 ) -> Outputs
-    ensures { Both (open_run (file_of present deck.now) query.now (budget_from (file_of limited limit.now))) out.old left.old result.listing result.goals out.new left.new }
+    ensures { Both (open_run (file_of deck.entry) query.now (budget_from (file_of limit.entry))) out.old left.old result.listing result.goals out.new left.new }
 {
-    let bad_deck = deck_refusal(present, deck);
-    if bad_deck != 0 {
-        let listing = put_refusal(out, bad_deck);
-        return Outputs { listing, goals: 0 };
-    }
-    let bad_query = query_refusal(query);
-    if bad_query != 0 {
-        let listing = put_refusal(out, bad_query);
-        return Outputs { listing, goals: 0 };
-    }
-    let mut deck_words = [0u16; 16384];
-    let mut query_words = [0u16; 500];
-    let d = read_words(deck, &mut deck_words);
-    let q = read_words(query, &mut query_words);
-    let most = budget(limited, limit);
-    open_run(&deck_words[..d], &query_words[..q], most, out, left)
+    let most = budget(limit);
+    let printed = asked(deck, query, most, out, left);
+    or_refusal(printed, out)
 }
 
-// The words of both inputs are there.
+// The outputs, or why there are none. Both rooms are parameters: a struct of the two is taken apart again for the refusal's line.
+fn asked(
+    deck: Option<&[u8]>,
+    query: &[u8],
+    budget: u32,
+    out: &mut [u8; 65605],
+    left: &mut [u8; 32792],
+) -> Result<Outputs, Refusal>
+    ensures { Leaves (open_run (file_of deck.entry) query.now budget) out.old left.old result out.new left.new }
+{
+    let mut deck_room = [0u16; 16384];
+    let mut query_room = [0u16; 500];
+    let deck = opened_deck(deck, &mut deck_room)?;
+    let query = query_words(query, &mut query_room)?;
+    open_run(deck, query, budget, out, left)
+}
+
+// The same from the words of both inputs on.
 fn open_run(
     deck: &[u16],
     query: &[u16],
     budget: u32,
     out: &mut [u8; 65605],
     left: &mut [u8; 32792],
-) -> Outputs
-    ensures { Both (open_words deck.now query.now budget) out.old left.old result.listing result.goals out.new left.new }
+) -> Result<Outputs, Refusal>
+    ensures { Leaves (open_words deck.now query.now budget) out.old left.old result out.new left.new }
 {
     let mut answers = [0u16; 8192];
     let mut store = [0u16; 16384];
     let mut scratch = [0u16; 8192];
     let terms = variables(query) as u64;
-    let ran = evaluation::run(deck, query, budget, &mut answers, &mut store, &mut scratch);
-    ended(ran, deck, terms, &answers, &store, out, left)
+    let report = evaluation::run(deck, query, budget, &mut answers, &mut store, &mut scratch)?;
+    let ending = Ending {
+        report,
+        deck,
+        terms,
+        answers: &answers,
+        store: &store,
+    };
+    Ok(ending.put(out, left))
 }
 
 // Carries on from a file of goals, if there is one, with a budget.
 pub fn carry_printed(
-    present: bool,
-    deck: &[u8],
-    kept: bool,
-    goals: &[u8],
+    deck: Option<&[u8]>,
+    goals: Option<&[u8]>,
     limit: &[u8],
     out: &mut [u8; 65605],
     left: &mut [u8; 32792],
 ) -> Outputs
-    ensures { Both (carry_run (file_of present deck.now) (file_of kept goals.now) (budget_from (some limit.now))) out.old left.old result.listing result.goals out.new left.new }
+    ensures { Both (carry_run (file_of deck.entry) (file_of goals.entry) (budget_from (some limit.now))) out.old left.old result.listing result.goals out.new left.new }
 {
-    let bad_deck = deck_refusal(present, deck);
-    if bad_deck != 0 {
-        let listing = put_refusal(out, bad_deck);
-        return Outputs { listing, goals: 0 };
-    }
-    let bad_goals = goals_refusal(kept, goals);
-    if bad_goals != 0 {
-        let listing = put_refusal(out, bad_goals);
-        return Outputs { listing, goals: 0 };
-    }
-    let mut words = [0u16; 16384];
-    let d = read_words(deck, &mut words);
-    let most = budget(true, limit);
-    carry_run(&words[..d], goals, most, out, left)
+    let most = budget(Some(limit));
+    let printed = carried(deck, goals, most, out, left);
+    or_refusal(printed, out)
 }
 
-// The deck's words and a file of goals of a possible length are there.
+// The outputs, or why there are none.
+fn carried(
+    deck: Option<&[u8]>,
+    goals: Option<&[u8]>,
+    budget: u32,
+    out: &mut [u8; 65605],
+    left: &mut [u8; 32792],
+) -> Result<Outputs, Refusal>
+    ensures { Leaves (carry_run (file_of deck.entry) (file_of goals.entry) budget) out.old left.old result out.new left.new }
+{
+    let mut room = [0u16; 16384];
+    let deck = opened_deck(deck, &mut room)?;
+    let goals = goals_file(goals)?;
+    carry_run(deck, goals, budget, out, left)
+}
+
+// The same from the deck's words and a file of goals of a possible length on.
 fn carry_run(
     deck: &[u16],
     goals: &[u8],
     budget: u32,
     out: &mut [u8; 65605],
     left: &mut [u8; 32792],
-) -> Outputs
+) -> Result<Outputs, Refusal>
     requires { (24 ≤ length goals.now) × (length goals.now ≤ 32792) }
-    ensures { Both (carry_bytes deck.now goals.now budget) out.old left.old result.listing result.goals out.new left.new }
+    ensures { Leaves (carry_bytes deck.now goals.now budget) out.old left.old result out.new left.new }
 {
     let mut answers = [0u16; 8192];
     let mut store = [0u16; 16384];
@@ -119,7 +126,7 @@ fn carry_run(
     let parked = number(goals, 8);
     let terms = number(goals, 16);
     read_words(&goals[24..], &mut store);
-    let ran = evaluation::carry::carry_on(
+    let report = evaluation::carry::carry_on(
         deck,
         pending,
         parked,
@@ -128,6 +135,13 @@ fn carry_run(
         &mut answers,
         &mut store,
         &mut scratch,
-    );
-    ended(ran, deck, terms, &answers, &store, out, left)
+    )?;
+    let ending = Ending {
+        report,
+        deck,
+        terms,
+        answers: &answers,
+        store: &store,
+    };
+    Ok(ending.put(out, left))
 }

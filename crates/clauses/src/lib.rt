@@ -1,14 +1,69 @@
-// The clauses of an opened deck: their cells, and which come one after another about one predicate.
+// The clauses of an opened deck: their cells, and which are about one predicate.
 #![tactic(auto)]
 
-ghost use Rattle.std.specs.Prelude.{◌≡◌, ◌+◌, ◌<◌, length, get_or};
+ghost use Rattle.std.specs.Prelude.{◌≡◌, ◌<◌, length};
+ghost use Rattle.std.proofs.Props.{props};
 ghost use Rattle.rules.specs.Syntax.{Clause, Deck};
-ghost use Rattle.rules.specs.Refusals.{accepted};
-ghost use Rattle.rules.specs.Decks.{write_clause, clause_words, open_deck};
-ghost use Rattle.clauses.specs.Clauses.{Opens, ClauseAt, Blank, Indexed};
+ghost use Rattle.rules.specs.Refusals.{accepted, checked_number};
+ghost use Rattle.rules.specs.Decks.{write_clause, clause_words, symbol_words, open_deck};
+ghost use Rattle.clauses.specs.Clauses.{Opens, ClauseAt, NextAbout, Indexed};
 
+use by_predicate::Index;
 use deck::parts;
-use words::wide;
+use one_predicate::About;
+
+pub mod by_predicate;
+pub mod one_predicate;
+
+// An opened deck, and the index of its clauses.
+#[derive(Clone, Copy)]
+pub struct Clauses<'a> {
+    pub deck: &'a [u16],
+    pub index: &'a Index,
+    ghost opened: { checked_number (open_deck deck.now) ≡ 0 },
+    ghost indexed: { Indexed deck.now index.now } by { Prim.hlevel props },
+}
+
+impl<'a> Clauses<'a> {
+    // The deck's clauses, by an index that was filled for it.
+    pub fn new(deck: &'a [u16], index: &'a Index) -> Clauses<'a>
+        requires opens { Opens deck.now }
+        requires indexed { Indexed deck.now index.now }
+        ensures { result.deck.now ≡ deck.now }
+    {
+        Clauses { deck, index }
+    }
+
+    // The deck's symbol words.
+    pub fn symbols(&self) -> &'a [u16]
+        ensures { result.now ≡ symbol_words self.now.deck.now }
+    {
+        parts::symbols(self.deck)
+    }
+
+    // The cells of clause i.
+    pub fn cells(&self, i: usize) -> &'a [u16]
+        requires { i < length (clause_words self.now.deck.now) }
+        ensures { (d : Deck) (c : Clause) → open_deck self.now.deck.now ≡ accepted d → ClauseAt d.clauses i c → result.now ≡ write_clause c }
+    {
+        clause_cells(self.deck, i)
+    }
+
+    // The clauses about the predicate p, in deck order.
+    pub fn about(&self, p: usize) -> About<'a>
+        requires { p < 4096 }
+        ensures clauses { result.clauses ≡ self.now }
+        ensures predicate { result.p ≡ p }
+        ensures first { (d : Deck) → open_deck self.now.deck.now ≡ accepted d → NextAbout p d.clauses 0 result.ahead }
+    {
+        let ahead = self.index.first_about(p);
+        About {
+            clauses: *self,
+            p,
+            ahead,
+        }
+    }
+}
 
 // The cells of clause i.
 pub fn clause_cells(deck: &[u16], i: usize) -> &[u16]
@@ -24,37 +79,4 @@ fn predicate(deck: &[u16], i: usize) -> u16
     ensures { (d : Deck) (c : Clause) → open_deck deck.now ≡ accepted d → ClauseAt d.clauses i c → result ≡ c.predicate }
 {
     clause_cells(deck, i)[0]
-}
-
-// Fills the index, from the last clause to the first: at p the first clause about the predicate p, at 4096 + i the next one about the predicate of clause i.
-pub fn fill_index(deck: &[u16], index: &mut [u16])
-    requires opens { Opens deck.now }
-    requires blank { Blank index.old }
-    ensures { Indexed deck.now index.new }
-{
-    let count = parts::clause_count(deck);
-    let mut done = 0;
-    while done < count {
-        done += 1;
-        let i = count - done;
-        let p = predicate(deck, i) as usize;
-        index[4096 + i] = index[p];
-        index[p] = i as u16;
-    }
-}
-
-// The first clause about the predicate p, or a number past the last clause.
-pub fn first_about(index: &[u16], p: usize) -> usize
-    requires { (p < 4096) × (length index.now ≡ 12288) }
-    ensures { result ≡ get_or index.now p 0 }
-{
-    wide(index[p])
-}
-
-// The next clause about the predicate of clause i, or a number past the last clause.
-pub fn next_about(index: &[u16], i: usize) -> usize
-    requires { (i < 8192) × (length index.now ≡ 12288) }
-    ensures { result ≡ get_or index.now (4096 + i) 0 }
-{
-    wide(index[4096 + i])
 }

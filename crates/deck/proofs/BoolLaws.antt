@@ -1,13 +1,14 @@
 -- Tests and whether something was found.
 use Prim.Native.Nat.{ℕ, ◌≤◌}
-use mathlib.Core.Path.{◌≡◌, refl}
+use mathlib.Core.Path.{◌≡◌, refl, ◌∙◌}
 use mathlib.Core.Bool.{Bool, true, false, ◌&&◌, false≢true}
 use mathlib.Core.Option.{Option, none, some}
-use mathlib.Core.List.{List, ◌∷◌}
+use mathlib.Core.List.{List, [], ◌∷◌}
 use native.Mathlib.Decide.{ℕ_discrete}
 use lib.Dec.{leb, eqb}
 use borrow.Author.Tests.{eq-eqb, ne_eqb, le-leb, leb-true}
 use Rattle.rules.specs.Decks.{read_next, read_all}
+use Rattle.std.specs.List.{list_all}
 use Rattle.deck.specs.Answers.{found}
 
 pub and-swap : (a b c : Bool) → a && (b && c) ≡ b && (a && c)
@@ -38,6 +39,12 @@ found-next (some a) (some as') = refl
 pub found-cons : {A B : Type 0} (read : A → Option B) (x : A) (xs : List A) → found (read_all read (x ∷ xs)) ≡ found (read x) && found (read_all read xs)
 unfolding read_all
 found-cons read x xs = found-next (read x) (read_all read xs)
+
+-- A list is read if all of its elements pass the test.
+pub found_all : {A B : Type 0} (read : A → Option B) (xs : List A) → found (read_all read xs) ≡ list_all (λ x. found (read x)) xs
+unfolding read_all found
+found_all read [] = refl
+found_all read (x ∷ xs) = found-cons read x xs ∙ rw (found_all read xs)
 
 -- A bound that holds exactly if a test passes is that test.
 pub leb-same : (a n : ℕ) (b : Bool) → (a ≤ n → b ≡ true) → (b ≡ true → a ≤ n) → leb a n ≡ b

@@ -7,3 +7,4 @@ pub mod RefusalLaws
 pub mod OpenLaws
 pub mod WalkLaws
 pub mod PartLaws
+pub mod HeaderLaws

@@ -14,7 +14,7 @@ use Rattle.rules.specs.Decks.{header, header_fits, clause_words, term_cells, wri
 use Rattle.rules.proofs.DeckLaws.{fit-facts, steps-open}
 use Rattle.rules.proofs.DeckWords.{clause_start, clause_from, clause_to, opened-words, clause-at, clause-slice}
 use Rattle.deck.specs.Rows.{row_at}
-use Rattle.deck.proofs.RowLaws.{get_d_any}
+use Rattle.deck.proofs.RowLaws.{get_or-any}
 
 module _ (ws : List ℕ) (fits : header_fits ws ≡ true) where
   pub clause-count : length (clause_words ws) ≡ header ws 3
@@ -30,7 +30,7 @@ module _ (ws : List ℕ) (fits : header_fits ws ≡ true) where
     unfolding clause_words
     start_word e =
         let n : i < length (clause_words ws) = omega (arith, clause-count) in
-        get_d_any (clause_words ws) i e 0 n ∙ get_or-take (header ws 3) (drop (header ws 4) ws) i 0 h ∙ get_or-drop (header ws 4) ws i 0
+        get_or-any (clause_words ws) i e 0 n ∙ get_or-take (header ws 3) (drop (header ws 4) ws) i 0 h ∙ get_or-drop (header ws 4) ws i 0
 
   end-word : (i : ℕ) → header ws 6 + get_or (clause_words ws) (i + 1) (length (term_cells ws)) ≡ clause_to ws i
   unfolding clause_to

@@ -7,7 +7,7 @@ use native.Mathlib.Omega.{arith}
 use lib.Dec.{eqb}
 use Rattle.rules.specs.Refusals.{Refusal, bad_header, bad_symbol, bad_starts, long_clause, bad_clause, long_query, bad_query, bad_store, bad_scratch, bad_text, no_room, bad_goals, loose_clause, loose_query, bad_drill, refusal_number, Checked, refused, accepted, checked_number}
 use Rattle.deck.specs.declared.Refusal.{Refusal as Why}
-use Rattle.deck.specs.declared.Checked.TheVariants.{Refused}
+use Rattle.std.specs.Prelude.{Err}
 use Rattle.deck.specs.Answers.{number_of, refusal_for}
 
 abbrev refusals : List Refusal
@@ -51,7 +51,7 @@ pub number-injective : (r s : Refusal) → refusal_number r ≡ refusal_number s
 number-injective r s e = sym (listed r).2 ∙ ap numbered e ∙ (listed s).2
 
 -- A refusal's number is not 0.
-pub refused-number : (why : Why) → number_of (Refused why) ≡ 0 → ⊥
+pub refused-number : (why : Why) → number_of (Err why) ≡ 0 → ⊥
 refused-number why e = omega (arith, number-positive (refusal_for why))
 
 -- What checks come to is decided by the number.
@@ -60,6 +60,6 @@ module _ {A : Type 0} where
   number-accepts (refused n) e = absurd (omega (arith, number-positive n))
   number-accepts (accepted a) e = (a, refl)
 
-  pub number-refuses : (why : Why) (c : Checked A) → number_of (Refused why) ≡ checked_number c → c ≡ refused (refusal_for why)
+  pub number-refuses : (why : Why) (c : Checked A) → number_of (Err why) ≡ checked_number c → c ≡ refused (refusal_for why)
   number-refuses why (refused n) e = ap refused (number-injective n (refusal_for why) (sym e))
   number-refuses why (accepted a) e = absurd (refused-number why e)

@@ -6,7 +6,7 @@ use mathlib.Core.Option.{Option}
 use mathlib.Core.List.{List, [], ◌∷◌}
 use native.Mathlib.Omega.{arith}
 use native.Mathlib.Numerals.{add-one}
-use lib.ListN.{length, get_or, take, drop, length-take, length-drop, drop_of_length-le}
+use lib.ListN.{length, get_or, take, drop, length-drop, drop_of_length-le}
 use lib.Seq.{drop-cons, take_all}
 use lib.Dec.{leb, ltb, eqb}
 use borrow.Author.Tests.{ltb-true}
@@ -16,10 +16,10 @@ use Rattle.deck.specs.Rows.{row_at}
 use Rattle.deck.proofs.BoolLaws.{found-cons}
 
 -- An element that is there, whatever stands for one that is not.
-pub get_d_any : (l : List ℕ) (n d e : ℕ) → n < length l → get_or l n d ≡ get_or l n e
-get_d_any [] n d e h = absurd (omega arith)
-get_d_any (x ∷ xs) zero d e h = refl
-get_d_any (x ∷ xs) (suc n) d e h = get_d_any xs n d e (omega arith)
+pub get_or-any : (l : List ℕ) (n d e : ℕ) → n < length l → get_or l n d ≡ get_or l n e
+get_or-any [] n d e h = absurd (omega arith)
+get_or-any (x ∷ xs) zero d e h = refl
+get_or-any (x ∷ xs) (suc n) d e h = get_or-any xs n d e (omega arith)
 
 -- A row and those after it.
 row_next : (cells : List ℕ) (s : ℕ) (ss : List ℕ) → clause_row cells s ss ≡ take (get_or ss 0 (length cells) - s) (drop s cells)
@@ -50,55 +50,43 @@ rising-between T s (r ∷ ss) (suc i) l e h =
     let b = (and-eq-true_iff (ltb s r && ltb r T) (rising T r ss)).0 e in
     rising-between T r ss i (ltb-true r T ((and-eq-true_iff (ltb s r) (ltb r T)).0 b.0).1) b.1 (omega arith)
 
-pub start-end : (T : ℕ) (starts : List ℕ) (i : ℕ) → starts_fit T starts ≡ true → i < length starts → (get_or starts i 0 < get_or starts (i + 1) T) × (get_or starts (i + 1) T ≤ T)
+pub start_end : (T : ℕ) (starts : List ℕ) (i : ℕ) → starts_fit T starts ≡ true → i < length starts → (get_or starts i 0 < get_or starts (i + 1) T) × (get_or starts (i + 1) T ≤ T)
 unfolding starts_fit
-start-end T [] i e h = absurd (omega arith)
-start-end T (s ∷ ss) i e h =
+start_end T [] i e h = absurd (omega arith)
+start_end T (s ∷ ss) i e h =
     let b = (and-eq-true_iff (eqb s 0 && ltb s T) (rising T s ss)).0 e in
     rw add-one (rising-between T s ss i (ltb-true s T ((and-eq-true_iff (eqb s 0) (ltb s T)).0 b.0).1) b.1 (omega arith))
 
--- The length of a clause's row.
-pub row-length : (cells starts : List ℕ) (i : ℕ) → starts_fit (length cells) starts ≡ true → i < length starts → length (row_at cells starts i) ≡ get_or starts (i + 1) (length cells) - get_or starts i 0
-row-length cells starts i e h = let b = start-end (length cells) starts i e h in simp (length-take, length-drop) (omega arith)
-
--- One element, one row at a time.
-pub read-from : {A : Type 0} (read : ℕ → Option A) (xs : List ℕ) (i : ℕ) → i < length xs → found (read_all read (drop i xs)) ≡ found (read (get_or xs i 0)) && found (read_all read (drop (i + 1) xs))
-read-from read xs i h = rw (add-one i, drop-cons xs i 0 h) (found-cons read (get_or xs i 0) (drop (suc i) xs))
-
-pub rows-from :
+-- One row at a time.
+pub rows_from :
     {A : Type 0} (read : List ℕ → Option A) (cells starts : List ℕ) (i : ℕ) → i < length starts
     → found (read_all read (clause_rows cells (drop i starts))) ≡ found (read (row_at cells starts i)) && found (read_all read (clause_rows cells (drop (i + 1) starts)))
-rows-from read cells starts i h = rw (rows_at cells starts i h) (found-cons read (row_at cells starts i) (clause_rows cells (drop (i + 1) starts)))
+rows_from read cells starts i h = rw (rows_at cells starts i h) (found-cons read (row_at cells starts i) (clause_rows cells (drop (i + 1) starts)))
 
-pub short-from :
-    (cells starts : List ℕ) (i : ℕ) → starts_fit (length cells) starts ≡ true → i < length starts
-    → rows_short (clause_rows cells (drop i starts)) ≡ leb (get_or starts (i + 1) (length cells) - get_or starts i 0) 256 && rows_short (clause_rows cells (drop (i + 1) starts))
+pub short_from : (cells starts : List ℕ) (i : ℕ) → i < length starts
+    → rows_short (clause_rows cells (drop i starts)) ≡ leb (length (row_at cells starts i)) 256 && rows_short (clause_rows cells (drop (i + 1) starts))
 unfolding rows_short
-short-from cells starts i e h = rw (rows_at cells starts i h) (rw (row-length cells starts i e h))
+short_from cells starts i h = rw (rows_at cells starts i h)
 
 -- Nothing is left past the end.
-pub read-end : {A : Type 0} (read : ℕ → Option A) (xs : List ℕ) (i : ℕ) → length xs ≤ i → found (read_all read (drop i xs)) ≡ true
-unfolding read_all found
-read-end read xs i h = rw (drop_of_length-le xs h)
-
 pub rows_end : {A : Type 0} (read : List ℕ → Option A) (cells starts : List ℕ) (i : ℕ) → length starts ≤ i → found (read_all read (clause_rows cells (drop i starts))) ≡ true
 unfolding read_all found clause_rows
 rows_end read cells starts i h = rw (drop_of_length-le starts h)
 
-pub short-end : (cells starts : List ℕ) (i : ℕ) → length starts ≤ i → rows_short (clause_rows cells (drop i starts)) ≡ true
+pub short_end : (cells starts : List ℕ) (i : ℕ) → length starts ≤ i → rows_short (clause_rows cells (drop i starts)) ≡ true
 unfolding rows_short clause_rows
-short-end cells starts i h = rw (drop_of_length-le starts h)
+short_end cells starts i h = rw (drop_of_length-le starts h)
 
 -- Starts that rise, one at a time.
-pub rising-from :
+pub rising_from :
     (T before : ℕ) (starts : List ℕ) (i : ℕ) → i < length starts
     → rising T before (drop i starts) ≡ ltb before (get_or starts i 0) && ltb (get_or starts i 0) T && rising T (get_or starts i 0) (drop (i + 1) starts)
 unfolding rising
-rising-from T before starts i h = rw (add-one i, drop-cons starts i 0 h)
+rising_from T before starts i h = rw (add-one i, drop-cons starts i 0 h)
 
-pub rising-end : (T before : ℕ) (starts : List ℕ) (i : ℕ) → length starts ≤ i → rising T before (drop i starts) ≡ true
+pub rising_end : (T before : ℕ) (starts : List ℕ) (i : ℕ) → length starts ≤ i → rising T before (drop i starts) ≡ true
 unfolding rising
-rising-end T before starts i h = rw (drop_of_length-le starts h)
+rising_end T before starts i h = rw (drop_of_length-le starts h)
 
 -- The starts as the code tests them.
 pub starts_none : (T : ℕ) (starts : List ℕ) → length starts ≡ 0 → starts_fit T starts ≡ eqb T 0

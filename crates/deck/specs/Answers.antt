@@ -1,13 +1,11 @@
 -- The refusals of the code as those of the rules, and the numbers of the answers (document 01, "Who can make the engine refuse").
-use Rattle.std.specs.Prelude.{ℕ, Bool, true, false, List}
+use Rattle.std.specs.Prelude.{ℕ, Bool, true, false, List, Result, Ok, Err}
 use Rattle.std.proofs.Math.Option.{Option, none, some}
 use Rattle.rules.specs.Syntax.{Literal}
 use Rattle.rules.specs.Refusals as rules
 use Rattle.rules.specs.Decks.{open_deck, read_query}
 use Rattle.deck.specs.declared.Refusal.{Refusal}
 use Rattle.deck.specs.declared.Refusal.TheVariants.{Header, Symbol, Starts, LongClause, Clause, LongQuery, Query, Store, Scratch, Text, Room, Goals, LooseClause, LooseQuery, Drill}
-use Rattle.deck.specs.declared.Checked.{Checked}
-use Rattle.deck.specs.declared.Checked.TheVariants.{Accepted, Refused}
 
 abbrev pub refusal_for : Refusal → rules.Refusal
 refusal_for Header = rules.bad_header
@@ -26,9 +24,9 @@ refusal_for LooseClause = rules.loose_clause
 refusal_for LooseQuery = rules.loose_query
 refusal_for Drill = rules.bad_drill
 
-abbrev pub number_of : Checked → ℕ
-number_of Accepted = 0
-number_of (Refused why) = rules.refusal_number (refusal_for why)
+abbrev pub number_of : Result (Unit {0}) Refusal → ℕ
+number_of (Ok u) = 0
+number_of (Err why) = rules.refusal_number (refusal_for why)
 
 -- Whether something was read.
 unfoldable pub found : {A : Type 0} → Option A → Bool

@@ -1,11 +1,9 @@
 -- Cells read forward, with the number of terms that are still to come and the number of variables that have appeared.
-use Rattle.std.specs.Prelude.{ℕ, zero, suc, ◌+◌, ◌≤◌, max, ◌≡◌, Bool, true, false, ◌&&◌, List, [], ◌∷◌, drop, leb}
+use Rattle.std.specs.Prelude.{ℕ, zero, suc, ◌+◌, ◌≤◌, max, ◌≡◌, Bool, true, false, ◌&&◌, List, [], ◌∷◌, drop, leb, Option, Some, None}
 use Rattle.rules.specs.Syntax.{Symbol}
 use Rattle.rules.specs.Cells.{read_cell}
 use Rattle.deck.specs.declared.kinds.Kind.{Kind}
 use Rattle.deck.specs.declared.kinds.Kind.TheVariants.{Variable, Function, Positive, Negative, Invalid}
-use Rattle.deck.specs.declared.terms.Walk.{Walk}
-use Rattle.deck.specs.declared.terms.Walk.TheVariants.{At, Bad}
 use Rattle.deck.specs.Kinds.{kind_of}
 
 -- One cell: a literal starts where no term is to come, and a term where one is. `go` reads the cells after it.
@@ -26,11 +24,11 @@ scan S [] (suc todo) next = false
 scan S (c ∷ cs) todo next = scan_cell (kind_of (read_cell S c)) todo next (scan S cs)
 
 -- What a walk over `number` terms from place `at` on says of the scan, however many terms are to come after them.
-abbrev pub Walked : List Symbol → List ℕ → ℕ → ℕ → ℕ → Walk → Type 0
-Walked S cells at number next (At end n) = (at ≤ end) × ((m : ℕ) → scan S (drop at cells) (number + m) next ≡ scan S (drop end cells) m n)
-Walked S cells at number next Bad = (m : ℕ) → scan S (drop at cells) (number + m) next ≡ false
+abbrev pub Walked : List Symbol → List ℕ → ℕ → ℕ → ℕ → Option (ℕ × ℕ) → Type 0
+Walked S cells at number next (Some p) = (at ≤ p.0) × ((m : ℕ) → scan S (drop at cells) (number + m) next ≡ scan S (drop p.0 cells) m p.1)
+Walked S cells at number next None = (m : ℕ) → scan S (drop at cells) (number + m) next ≡ false
 
 -- The same of a literal.
-abbrev pub LiteralWalked : List Symbol → List ℕ → ℕ → ℕ → Walk → Type 0
-LiteralWalked S cells at next (At end n) = (suc at ≤ end) × (scan S (drop at cells) 0 next ≡ scan S (drop end cells) 0 n)
-LiteralWalked S cells at next Bad = scan S (drop at cells) 0 next ≡ false
+abbrev pub LiteralWalked : List Symbol → List ℕ → ℕ → ℕ → Option (ℕ × ℕ) → Type 0
+LiteralWalked S cells at next (Some p) = (suc at ≤ p.0) × (scan S (drop at cells) 0 next ≡ scan S (drop p.0 cells) 0 p.1)
+LiteralWalked S cells at next None = scan S (drop at cells) 0 next ≡ false

@@ -1,22 +1,21 @@
 // Refusal 5: each clause is a head and literals, whose variables are numbered in order of first appearance.
-ghost use Rattle.std.specs.Prelude.{◌≡◌, true, length};
-ghost use Rattle.rules.specs.Decks.{starts_fit, clause_rows, read_all, read_clause};
+ghost use Rattle.std.specs.Prelude.{◌≡◌};
+ghost use Rattle.rules.specs.Decks.{clause_rows, read_all, read_clause};
 ghost use Rattle.deck.specs.Answers.{found};
 ghost use Rattle.deck.specs.Kinds.{symbols_of};
 
 use crate::kinds::Kind;
-use crate::{kinds, starts, terms};
+use crate::rows::Rows;
+use crate::{kinds, terms};
 
-pub fn fit(symbols: &[u16], starts: &[u16], cells: &[u16]) -> bool
-    requires { starts_fit (length cells.now) starts.now ≡ true }
-    ensures { result ≡ found (read_all (read_clause (symbols_of symbols.now)) (clause_rows cells.now starts.now)) }
+#[tactic(auto, using(crate::proofs::RowLaws::rows_from, crate::proofs::RowLaws::rows_end))]
+pub fn fit(symbols: &[u16], rows: &Rows) -> bool
+    ensures { result ≡ found (read_all (read_clause (symbols_of symbols.now)) (clause_rows rows.now.cells.now rows.now.starts.now)) }
 {
-    let mut i = 0;
-    while i < starts.len() {
-        if !clause(symbols, starts::row(starts, cells, i)) {
+    for i in 0..rows.starts.len() {
+        if !clause(symbols, rows.row(i)) {
             return false;
         }
-        i += 1;
     }
     true
 }
@@ -25,10 +24,10 @@ pub fn fit(symbols: &[u16], starts: &[u16], cells: &[u16]) -> bool
 fn clause(symbols: &[u16], cells: &[u16]) -> bool
     ensures { result ≡ found (read_clause (symbols_of symbols.now) cells.now) }
 {
-    if cells.len() == 0 {
+    let [head, ..] = cells else {
         return false;
-    }
-    match kinds::read(symbols, cells[0]) {
+    };
+    match kinds::read(symbols, *head) {
         Kind::Positive(_) => terms::literals(symbols, cells),
         _ => false,
     }

@@ -5,7 +5,7 @@ ghost use Rattle.rules.specs.Cells.{read_cell, symbol_cell, negated_cell};
 ghost use Rattle.deck.specs.Kinds.{symbols_of, kind_of};
 
 // A variable with its number; a functor, a predicate, a negated predicate with its arity; or no cell.
-#[derive(Drop)]
+#[derive(Clone, Copy, Debug, PartialEq, Eq)]
 pub enum Kind {
     Variable(usize),
     Function(usize),
@@ -17,18 +17,11 @@ pub enum Kind {
 pub fn read(symbols: &[u16], cell: u16) -> Kind
     ensures { result ≡ kind_of (read_cell (symbols_of symbols.now) cell) }
 {
-    let c = cell as usize;
-    if 32768 <= c {
-        let v = c - 32768;
-        if v <= 1023 {
-            Kind::Variable(v)
-        } else {
-            Kind::Invalid
-        }
-    } else if 16384 <= c {
-        negated(symbols, c - 16384)
-    } else {
-        symbol(symbols, c)
+    match cell {
+        0..=16383 => symbol(symbols, usize::from(cell)),
+        16384..=32767 => negated(symbols, usize::from(cell - 16384)),
+        32768..=33791 => Kind::Variable(usize::from(cell - 32768)),
+        _ => Kind::Invalid,
     }
 }
 

@@ -1,21 +1,18 @@
 // Refusal 4: the clauses' lengths.
-ghost use Rattle.std.specs.Prelude.{◌≡◌, true, length};
-ghost use Rattle.rules.specs.Decks.{starts_fit, clause_rows, rows_short};
+ghost use Rattle.std.specs.Prelude.{◌≡◌};
+ghost use Rattle.rules.specs.Decks.{clause_rows, rows_short};
 
-use crate::starts;
-use words::word;
+use crate::rows::Rows;
 
 // At most 256 cells each.
-pub fn fit(starts: &[u16], cells: &[u16]) -> bool
-    requires { starts_fit (length cells.now) starts.now ≡ true }
-    ensures { result ≡ rows_short (clause_rows cells.now starts.now) }
+#[tactic(auto, using(crate::proofs::RowLaws::short_from, crate::proofs::RowLaws::short_end))]
+pub fn fit(rows: &Rows) -> bool
+    ensures { result ≡ rows_short (clause_rows rows.now.cells.now rows.now.starts.now) }
 {
-    let mut i = 0;
-    while i < starts.len() {
-        if 256 < starts::end(starts, cells, i) - word(starts, i) {
+    for i in 0..rows.starts.len() {
+        if 256 < rows.row(i).len() {
             return false;
         }
-        i += 1;
     }
     true
 }

@@ -2,21 +2,24 @@
 #![tactic(auto)]
 
 ghost use Rattle.std.specs.Prelude.{◌≡◌};
-ghost use Rattle.rules.specs.Refusals.{checked_number};
+ghost use Rattle.rules.specs.Refusals.{checked_number, refusal_number};
 ghost use Rattle.rules.specs.Decks.{open_deck};
-ghost use Rattle.deck.specs.Answers.{number_of, check_words};
+ghost use Rattle.deck.specs.Answers.{number_of, refusal_for, check_words};
+
+use rows::Rows;
 
 mod clauses;
 mod header;
 pub mod kinds;
 mod lengths;
 pub mod parts;
+mod rows;
 mod starts;
 mod symbols;
 mod terms;
 
 // The refusals, in the order of their numbers.
-#[derive(Drop)]
+#[derive(Clone, Copy, Debug, PartialEq, Eq)]
 pub enum Refusal {
     Header,
     Symbol,
@@ -35,83 +38,80 @@ pub enum Refusal {
     Drill,
 }
 
-#[derive(Drop)]
-pub enum Checked {
-    Accepted,
-    Refused(Refusal),
-}
-
 // The paper's number of an answer: 0 where all is accepted.
-pub fn number(answer: Checked) -> u32
+pub fn number(answer: Result<(), Refusal>) -> u32
     ensures { result ≡ number_of answer }
 {
     match answer {
-        Checked::Accepted => 0,
-        Checked::Refused(why) => refusal_number(why),
+        Ok(()) => 0,
+        Err(why) => u32::from(why),
     }
 }
 
-fn refusal_number(why: Refusal) -> u32
-    ensures { result ≡ number_of (Checked.Refused why) }
-{
-    match why {
-        Refusal::Header => 1,
-        Refusal::Symbol => 2,
-        Refusal::Starts => 3,
-        Refusal::LongClause => 4,
-        Refusal::Clause => 5,
-        Refusal::LongQuery => 6,
-        Refusal::Query => 7,
-        Refusal::Store => 8,
-        Refusal::Scratch => 9,
-        Refusal::Text => 10,
-        Refusal::Room => 11,
-        Refusal::Goals => 12,
-        Refusal::LooseClause => 13,
-        Refusal::LooseQuery => 14,
-        Refusal::Drill => 19,
+// The paper's number of a refusal.
+impl From<Refusal> for u32 {
+    ghost from_gives = { λ why number. number ≡ refusal_number (refusal_for why) };
+
+    fn from(why: Refusal) -> u32 {
+        match why {
+            Refusal::Header => 1,
+            Refusal::Symbol => 2,
+            Refusal::Starts => 3,
+            Refusal::LongClause => 4,
+            Refusal::Clause => 5,
+            Refusal::LongQuery => 6,
+            Refusal::Query => 7,
+            Refusal::Store => 8,
+            Refusal::Scratch => 9,
+            Refusal::Text => 10,
+            Refusal::Room => 11,
+            Refusal::Goals => 12,
+            Refusal::LooseClause => 13,
+            Refusal::LooseQuery => 14,
+            Refusal::Drill => 19,
+        }
     }
 }
 
 // Refusals 1 to 5, each over everything before the next.
-pub fn open(deck: &[u16]) -> Checked
+pub fn open(deck: &[u16]) -> Result<(), Refusal>
     ensures { number_of result ≡ checked_number (open_deck deck.now) }
 {
     if !header::fit(deck) {
-        return Checked::Refused(Refusal::Header);
+        return Err(Refusal::Header);
     }
     let words = parts::symbols(deck);
     if !symbols::fit(words) {
-        return Checked::Refused(Refusal::Symbol);
+        return Err(Refusal::Symbol);
     }
     let places = parts::starts(deck);
     let cells = parts::cells(deck);
     if !starts::fit(places, cells.len()) {
-        return Checked::Refused(Refusal::Starts);
+        return Err(Refusal::Starts);
     }
-    if !lengths::fit(places, cells) {
-        return Checked::Refused(Refusal::LongClause);
+    let rows = Rows {
+        starts: places,
+        cells,
+    };
+    if !lengths::fit(&rows) {
+        return Err(Refusal::LongClause);
     }
-    if !clauses::fit(words, places, cells) {
-        return Checked::Refused(Refusal::Clause);
+    if !clauses::fit(words, &rows) {
+        return Err(Refusal::Clause);
     }
-    Checked::Accepted
+    Ok(())
 }
 
 // Refusals 1 to 5 of the deck, then 6 and 7 of the query; loose variables are looked at by `loose`.
-pub fn check(deck: &[u16], query: &[u16]) -> Checked
+pub fn check(deck: &[u16], query: &[u16]) -> Result<(), Refusal>
     ensures { number_of result ≡ checked_number (check_words deck.now query.now) }
 {
-    match open(deck) {
-        Checked::Refused(why) => Checked::Refused(why),
-        Checked::Accepted => {
-            if 500 < query.len() {
-                return Checked::Refused(Refusal::LongQuery);
-            }
-            if !terms::literals(parts::symbols(deck), query) {
-                return Checked::Refused(Refusal::Query);
-            }
-            Checked::Accepted
-        }
+    open(deck)?;
+    if 500 < query.len() {
+        return Err(Refusal::LongQuery);
     }
+    if !terms::literals(parts::symbols(deck), query) {
+        return Err(Refusal::Query);
+    }
+    Ok(())
 }

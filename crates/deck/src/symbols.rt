@@ -1,19 +1,14 @@
 // Refusal 2: the symbol words.
 ghost use Rattle.std.specs.Prelude.{◌≡◌};
-ghost use Rattle.rules.specs.Decks.{read_symbol, read_all};
+ghost use Rattle.std.specs.List.{list_all};
+ghost use Rattle.rules.specs.Decks.{read_symbol};
 ghost use Rattle.deck.specs.Answers.{found};
 
+// Whether each word is a symbol's.
 pub fn fit(words: &[u16]) -> bool
-    ensures { result ≡ found (read_all read_symbol words.now) }
+    ensures { result ≡ list_all (λ word. found (read_symbol word)) words.now }
 {
-    let mut i = 0;
-    while i < words.len() {
-        if !is_symbol(words[i]) {
-            return false;
-        }
-        i += 1;
-    }
-    true
+    words.iter().all(|word| is_symbol(*word))
 }
 
 // The arity, 0 to 15, plus 256 for a predicate.

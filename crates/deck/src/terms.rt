@@ -1,5 +1,6 @@
 // Walks over cells: terms, and literals with their terms.
-ghost use Rattle.std.specs.Prelude.{suc, max, ◌<◌, ◌≡◌, length};
+// Symbols and cells stay two parameters: the symbols are the deck's, the cells a clause's, a query's or a goal's.
+ghost use Rattle.std.specs.Prelude.{◌<◌, ◌≡◌, length};
 ghost use Rattle.rules.specs.Cells.{read_literals};
 ghost use Rattle.deck.specs.Answers.{found};
 ghost use Rattle.deck.specs.Kinds.{symbols_of};
@@ -8,57 +9,46 @@ ghost use Rattle.deck.specs.Scan.{Walked, LiteralWalked};
 use crate::kinds;
 use crate::kinds::Kind;
 
-// Where the terms end and how many variables have appeared by then, or that the cells are no such terms.
-#[derive(Drop)]
-pub enum Walk {
-    At(usize, usize),
-    Bad,
-}
-
-// `number` terms from place `at` on, where `next` variables have appeared.
-fn terms(symbols: &[u16], cells: &[u16], at: usize, number: usize, next: usize) -> Walk
+// `number` terms from place `at` on, where `next` variables have appeared: where they end and how many variables have appeared by then, or none where the cells are no such terms.
+fn terms(
+    symbols: &[u16],
+    cells: &[u16],
+    at: usize,
+    number: usize,
+    next: usize,
+) -> Option<(usize, usize)>
     ensures { Walked (symbols_of symbols.now) cells.now at number next result }
 {
     if number == 0 {
-        return Walk::At(at, next);
+        return Some((at, next));
     }
     if cells.len() <= at {
-        return Walk::Bad;
+        return None;
     }
     match kinds::read(symbols, cells[at]) {
         Kind::Variable(v) => {
             if next < v {
-                Walk::Bad
-            } else {
-                terms(symbols, cells, at + 1, number - 1, seen(next, v))
+                return None;
             }
+            terms(symbols, cells, at + 1, number - 1, next.max(v + 1))
         }
-        Kind::Function(arity) => match terms(symbols, cells, at + 1, arity, next) {
-            Walk::At(end, n) => terms(symbols, cells, end, number - 1, n),
-            Walk::Bad => Walk::Bad,
-        },
-        _ => Walk::Bad,
+        Kind::Function(arity) => {
+            let (end, n) = terms(symbols, cells, at + 1, arity, next)?;
+            terms(symbols, cells, end, number - 1, n)
+        }
+        _ => None,
     }
-}
-
-// How many variables have appeared once variable v has.
-fn seen(next: usize, v: usize) -> usize
-    requires { v < 1024 }
-    ensures { result ≡ max next (suc v) }
-{
-    if next <= v { v + 1 } else { next }
 }
 
 // The literal at place `at`.
-fn literal(symbols: &[u16], cells: &[u16], at: usize, next: usize) -> Walk
+fn literal(symbols: &[u16], cells: &[u16], at: usize, next: usize) -> Option<(usize, usize)>
     requires { at < length cells.now }
     ensures { LiteralWalked (symbols_of symbols.now) cells.now at next result }
 {
-    match kinds::read(symbols, cells[at]) {
-        Kind::Positive(arity) => terms(symbols, cells, at + 1, arity, next),
-        Kind::Negative(arity) => terms(symbols, cells, at + 1, arity, next),
-        _ => Walk::Bad,
-    }
+    let (Kind::Positive(arity) | Kind::Negative(arity)) = kinds::read(symbols, cells[at]) else {
+        return None;
+    };
+    terms(symbols, cells, at + 1, arity, next)
 }
 
 // Literals whose variables are numbered in order of first appearance.
@@ -67,16 +57,13 @@ pub fn literals(symbols: &[u16], cells: &[u16]) -> bool
 {
     let mut at = 0;
     let mut next = 0;
+    // No `for`: the place moves by a literal's length.
     while at < cells.len() {
-        match literal(symbols, cells, at, next) {
-            Walk::At(end, n) => {
-                at = end;
-                next = n;
-            }
-            Walk::Bad => {
-                return false;
-            }
-        }
+        let Some((end, n)) = literal(symbols, cells, at, next) else {
+            return false;
+        };
+        at = end;
+        next = n;
     }
     true
 }

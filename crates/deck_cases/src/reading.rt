@@ -4,16 +4,16 @@ ghost use Rattle.rules.specs.Decks.{header_fits, clause_words, term_cells, start
 
 use crate::show;
 use deck::kinds::Kind;
-use deck::{Checked, kinds, parts};
+use deck::{kinds, parts};
 use std::io;
 
 fn kind(rt: &impl Print, symbols: &[u16], cell: u16) -> io::Result<()> {
     match kinds::read(symbols, cell) {
-        Kind::Variable(v) => show::line(rt, b"variable", v as u64),
-        Kind::Function(k) => show::line(rt, b"functor", k as u64),
-        Kind::Positive(k) => show::line(rt, b"predicate", k as u64),
-        Kind::Negative(k) => show::line(rt, b"negated", k as u64),
-        Kind::Invalid => show::line(rt, b"no cell", cell as u64),
+        Kind::Variable(v) => show::line(rt, "variable", v),
+        Kind::Function(k) => show::line(rt, "functor", k),
+        Kind::Positive(k) => show::line(rt, "predicate", k),
+        Kind::Negative(k) => show::line(rt, "negated", k),
+        Kind::Invalid => show::line(rt, "no cell", cell),
     }
 }
 
@@ -39,18 +39,18 @@ pub fn kinds(rt: &impl Print) -> io::Result<()> {
 
 // Where clause i starts and ends, and its number of cells.
 fn clause(rt: &impl Print, deck: &[u16], i: usize) -> io::Result<()>
-    requires deck_value { header_fits deck.now ≡ true }
-    requires deck_value_2 { starts_fit (length (term_cells deck.now)) (clause_words deck.now) ≡ true }
+    requires header { header_fits deck.now ≡ true }
+    requires in_order { starts_fit (length (term_cells deck.now)) (clause_words deck.now) ≡ true }
     requires i_in_bounds { i < length (clause_words deck.now) }
 {
-    show::line(rt, b"starts", parts::clause_start(deck, i) as u64)?;
-    show::line(rt, b"ends", parts::clause_end(deck, i) as u64)?;
-    show::line(rt, b"cells", parts::clause(deck, i).len() as u64)
+    show::line(rt, "starts", parts::clause_start(deck, i))?;
+    show::line(rt, "ends", parts::clause_end(deck, i))?;
+    show::line(rt, "cells", parts::clause(deck, i).len())
 }
 
 fn each_clause(rt: &impl Print, deck: &[u16]) -> io::Result<()>
-    requires deck_value { header_fits deck.now ≡ true }
-    requires deck_value_2 { starts_fit (length (term_cells deck.now)) (clause_words deck.now) ≡ true }
+    requires header { header_fits deck.now ≡ true }
+    requires in_order { starts_fit (length (term_cells deck.now)) (clause_words deck.now) ≡ true }
 {
     let count = parts::clause_count(deck);
     for i in 0..count {
@@ -62,10 +62,10 @@ fn each_clause(rt: &impl Print, deck: &[u16]) -> io::Result<()>
 // What an accepted deck's clauses are, and its third symbol.
 pub fn clauses(rt: &impl Print, deck: &[u16]) -> io::Result<()> {
     match deck::open(deck) {
-        Checked::Accepted => {
+        Ok(()) => {
             each_clause(rt, deck)?;
             kind(rt, parts::symbols(deck), 2)
         }
-        Checked::Refused(_) => show::line(rt, b"clauses", 0),
+        Err(_) => show::line(rt, "clauses", 0),
     }
 }

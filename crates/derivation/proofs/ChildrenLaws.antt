@@ -2,28 +2,29 @@
 use Prim.Native.Nat.{ℕ, zero, suc, ◌+◌, ◌-◌, ◌≤◌, ◌<◌}
 use mathlib.Core.Path.{◌≡◌, refl, ap, sym, ◌∙◌, subst}
 use mathlib.Core.Logic.{⊎_elim}
-use mathlib.Core.Bool.{Bool, true, false, ◌||◌, true≢false}
+use mathlib.Core.Bool.{Bool, true, false, ◌||◌}
 use mathlib.Core.Option.{Option, none, some}
 use mathlib.Core.List.{List, [], ◌∷◌, ◌++◌, append_assoc, append-nil}
 use native.Mathlib.Omega.{arith}
 use lib.ListN.{length, take, drop, drop_of_length-le, length-drop}
-use lib.Seq.{length-sets, drop-drop}
+use lib.Seq.{length-sets, drop-drop, length-take-le}
 use lib.Dec.{ltb}
 use borrow.Author.Tests.{eq-eqb, ne_eqb, lt-ltb, le-ltb}
 use Rattle.rules.specs.Terms.{Terms}
 use Rattle.rules.specs.Syntax.{Literal, Clause, Deck, Goal, top_goal}
 use Rattle.rules.specs.Decks.{symbol_words}
-use Rattle.rules.specs.Goals.{pending, marked, unmarked, goal_words, write_goal, write_goals, words_of}
+use Rattle.rules.specs.Goals.{pending, marked, unmarked, goal_words, write_goal, write_goals}
 use Rattle.rules.specs.Resolution.{clauses_about, resolvent, keep_some, collect, resolvents, any_oversized, matchings}
 use Rattle.rules.proofs.GoalLaws.{goal-length, goals-append, unmarked-append, words_of-append}
+use Rattle.std.proofs.lemmas.List.{length-take}
 use Rattle.words.proofs.StoreLaws.{take-sets-before, take-sets}
 use Rattle.resolvents.specs.Selecting.{GoalCells}
 use Rattle.resolvents.specs.Deriving.{equations_of, IsResolvent}
 use Rattle.resolvents.specs.declared.resolve.Resolved.{Resolved}
 use Rattle.resolvents.specs.declared.resolve.Resolved.TheVariants.{Nothing, Child, Oversized}
-use Rattle.clauses.specs.Clauses.{ClauseAt, NextAbout}
-use Rattle.derivation.specs.Derives.{Tries, sum_of, Fitting, Placed, Writes}
-use Rattle.derivation.specs.declared.Children.TheVariants as kinds
+use Rattle.clauses.specs.Clauses.{ClauseAt, place_in, NextAbout}
+use Rattle.derivation.specs.Derives.{Tries, sum_of, Fitting, Placed, WritesTo, Writes}
+use Rattle.std.proofs.Common.{Option as Maybe, Some, None}
 
 -- The clauses about a predicate: one that is, one that is not, and those up to the next one that is.
 module _ (p : ℕ) where
@@ -56,8 +57,9 @@ module _ (p : ℕ) where
         ∙ pass-some n (i + 1) (λ k c a l at. h k c (omega arith) (omega arith) at)
         ∙ ap (λ (m : ℕ). clauses_about p (drop m cs)) e
 
-    about-past : {i j : ℕ} → NextAbout p cs i j → clauses_about p (drop i cs) ≡ clauses_about p (drop j cs)
-    about-past {i} {j} n =
+    about-past : {i : ℕ} {o : Maybe ℕ} → NextAbout p cs i o → clauses_about p (drop i cs) ≡ clauses_about p (drop (place_in cs o) cs)
+    about-past {i} {o} n =
+        let j = place_in cs o in
         let e : i + (j - i) ≡ j = omega (arith, n.later) in
         pass-some (j - i) i (λ k c a l at. n.passed k c a (omega (arith, n.later)) at) ∙ ap (λ (m : ℕ). clauses_about p (drop m cs)) e
 
@@ -80,16 +82,18 @@ pub sum_by : (d : Deck) (g : Goal) (p : ℕ) (ts : Terms) (n : ℕ) → n ≡ to
 sum_by d g p ts n e = ap (λ m. matchings m ts (clauses_about p d.clauses)) (sym e)
 
 -- The cells after the goal's may change.
+pub kept-inside : (cells cells₀ : List ℕ) (size : ℕ) → take size cells ≡ take size cells₀ → size ≤ length cells₀ → size ≤ length cells
+kept-inside cells cells₀ size k l = omega (arith, ap length k, length-take-le size cells₀ l, length-take size cells)
+
 pub tries-kept :
     {ws cells₀ : List ℕ} {size answers s e n : ℕ} {d : Deck} {g : Goal} {before : List Literal} {p : ℕ} {ts : Terms} {after : List Literal} (cells : List ℕ)
-    → take size cells ≡ take size cells₀ → length cells ≡ length cells₀ → Tries ws cells₀ size answers s e n d g before p ts after
-    → Tries ws cells size answers s e n d g before p ts after
-tries-kept {ws} {answers = answers} {d = d} {g = g} cells k l t =
+    → take size cells ≡ take size cells₀ → Tries ws cells₀ size answers s e n d g before p ts after → Tries ws cells size answers s e n d g before p ts after
+tries-kept {ws} {cells₀} {size} {answers = answers} {d = d} {g = g} cells k t =
     let c = t.calls in
     record {
       opens = t.opens;
       calls = record {
-        inside = omega (arith, c.inside);
+        inside = kept-inside cells cells₀ size k c.inside;
         goal = subst (λ (cs : List ℕ). GoalCells (symbol_words ws) cs answers d.symbols g) (sym k) c.goal;
         literals = c.literals;
         span = c.span;
@@ -115,6 +119,9 @@ some-over : (gs : List Goal) (g : Goal) (hs : List Goal) → 1024 < goal_words g
 unfolding any_oversized
 some-over gs g hs h = rw (over-append gs (g ∷ hs), any_oversized, lt-ltb 1024 (goal_words g) h) (or-true (any_oversized gs))
 
+over-more : (gs : List Goal) (g : Goal) → any_oversized gs ≡ true → any_oversized (gs ++ (g ∷ [])) ≡ true
+over-more gs g e = rw (over-append gs (g ∷ []), e) refl
+
 or-false : (b : Bool) → (b || false) ≡ b
 or-false true = refl
 or-false false = refl
@@ -133,90 +140,76 @@ pub child-short : (o : Option Goal) (child : List ℕ) (w : ℕ) → IsResolvent
 child-short none child w h = elim h [ ]
 child-short (some g) child w h = h.1
 
-pub given-fits : (o : Option Goal) (child : List ℕ) (answer : Resolved) (end : ℕ) → IsResolvent o child answer → 1024 ≤ length child → end + 1024 < 18446744073709551616
-    → Fitting answer child end
-given-fits o child Nothing end h l f = tt
-given-fits o child (Child w) end h l f = (omega (arith, child-short o child w h), omega (arith, child-short o child w h))
-given-fits o child Oversized end h l f = tt
+pub given-fits : (o : Option Goal) (child : List ℕ) (answer : Resolved) (end : Maybe ℕ) → IsResolvent o child answer
+    → ((e : ℕ) → end ≡ Some e → e + 1024 < 18446744073709551616) → Fitting answer end
+given-fits o child Nothing end h f = tt
+given-fits o child (Child w) (Some e) h f = (child-short o child w h, omega (arith, child-short o child w h, f e refl))
+given-fits o child (Child w) None h f = tt
+given-fits o child Oversized end h f = tt
 
-module _ (store : List ℕ) (end : ℕ) (over : Bool) (child store' : List ℕ) (end' : ℕ) (over' : Bool) where
-  pub placed_by : (answer answer' : Resolved) → answer ≡ answer' → Placed store end over child answer' store' end' over' → Placed store end over child answer store' end' over'
-  placed_by answer answer' e k = subst (λ x. Placed store end over child x store' end' over') (sym e) k
+module _ (store child store' : List ℕ) (end' : Maybe ℕ) where
+  pub placed-length : (end : Maybe ℕ) (answer : Resolved) → Placed store end child answer store' end' → length store' ≡ length store
+  placed-length None answer k = ap length k.0
+  placed-length (Some e) Nothing k = ap length k.0
+  placed-length (Some e) (Child w) k = ⊎_elim (λ q. ap length q.1 ∙ length-sets store e (take w child)) (λ q. ap length q.1) k.0
+  placed-length (Some e) Oversized k = ap length k.0
 
-  pub placed-length : (answer : Resolved) → Placed store end over child answer store' end' over' → length store' ≡ length store
-  placed-length Nothing k = ap length k.0
-  placed-length (Child w) k = ⊎_elim (λ q. ap length q.1 ∙ length-sets store end (take w child)) (λ q. ap length q.1) k.0
-  placed-length Oversized k = ap length k.0
+  -- The place after one more goal is at most as far as a goal is long.
+  pub placed-few : (o : Option Goal) (end : Maybe ℕ) (answer : Resolved) (most : ℕ) → IsResolvent o child answer → Placed store end child answer store' end'
+      → ((e : ℕ) → end ≡ Some e → e + 1024 ≤ most) → (e : ℕ) → end' ≡ Some e → e ≤ most
+  placed-few o None answer most h k b e q = cc
+  placed-few o (Some e₀) Nothing most h k b e q = let same : e ≡ e₀ = cc in omega (arith, b e₀ refl)
+  placed-few o (Some e₀) (Child w) most h k b e q = let same : e ≡ e₀ + w = cc in omega (arith, b e₀ refl, child-short o child w h)
+  placed-few o (Some e₀) Oversized most h k b e q = cc
 
-  pub placed-few : (o : Option Goal) (answer : Resolved) → IsResolvent o child answer → Placed store end over child answer store' end' over' → end' ≤ end + 1024
-  placed-few o Nothing h k = omega (arith, k.1)
-  placed-few o (Child w) h k = omega (arith, k.1, child-short o child w h)
-  placed-few o Oversized h k = omega (arith, k.1)
-
--- After i clauses: the goals that they gave, whether one is oversized, and else that those that have room are in the store from base on; and
--- what is left after their equations. `all` is what all clauses give, and `sum` the equations that they take.
-pub record Going (by : Clause → Option Goal) (N : ℕ) (ts : Terms) (p : ℕ) (cs : List Clause) (all : List Goal) (sum : ℕ) (store₀ : List ℕ) (base left : ℕ) (store : List ℕ) (end : ℕ) (over : Bool) (rest i : ℕ) : Type 0 where
+-- After some clauses: the goals that they gave, and that they are in the store from base on as far as there is room, unless one is
+-- oversized; and what is left after their equations. The next clause about the predicate is `ahead`. `all` is what all clauses give, and
+-- `sum` the equations that they take.
+pub record Going (by : Clause → Option Goal) (N : ℕ) (ts : Terms) (p : ℕ) (cs : List Clause) (all : List Goal) (sum : ℕ) (store₀ : List ℕ) (base left : ℕ) (store : List ℕ) (end : Maybe ℕ) (rest i : ℕ) : Type 0 where
   pub given : List Goal
   pub whole : all ≡ given ++ collect by (clauses_about p (drop i cs))
-  pub large : any_oversized given ≡ over
-  pub low : base ≤ end
   pub kept : take base store ≡ take base store₀
-  pub reaches : over ≡ false → end ≡ base + words_of given
-  pub words : over ≡ false → end ≤ length store₀ → take end store ≡ take base store₀ ++ write_goals (unmarked given)
+  pub low : (e : ℕ) → end ≡ Some e → base ≤ e
+  pub reached : WritesTo store₀ base given store end
   pub paid : rest + sum ≡ left + matchings N ts (clauses_about p (drop i cs))
 
 module _ (by : Clause → Option Goal) (N : ℕ) (ts : Terms) (p : ℕ) (cs : List Clause) (all : List Goal) (sum : ℕ) (store₀ : List ℕ) (base left : ℕ) where
-  abbrev Reaching : List ℕ → ℕ → Bool → ℕ → ℕ → Type 0
-  Reaching store end over rest i = Going by N ts p cs all sum store₀ base left store end over rest i
+  abbrev pub Reaching : List ℕ → Maybe ℕ → ℕ → ℕ → Type 0
+  Reaching store end rest i = Going by N ts p cs all sum store₀ base left store end rest i
 
-  pub going-first : all ≡ collect by (clauses_about p cs) → sum ≡ matchings N ts (clauses_about p cs) → Reaching store₀ base false left 0
+  pub going-first : all ≡ collect by (clauses_about p cs) → sum ≡ matchings N ts (clauses_about p cs) → Reaching store₀ (Some base) left 0
   unfolding any_oversized write_goals
   going-first e q =
       record {
         given = [];
         whole = e;
-        large = refl;
-        low = omega arith;
         kept = refl;
-        reaches = λ z. omega arith;
-        words = λ z h. sym (append-nil (take base store₀));
+        low = λ k z. let same : k ≡ base = cc in omega arith;
+        reached = (refl, omega arith, λ h. sym (append-nil (take base store₀)));
         paid = ap (left +◌) q;
       }
 
-  pub going-past : {store : List ℕ} {end : ℕ} {over : Bool} {rest i j : ℕ} → NextAbout p cs i j → Reaching store end over rest i → Reaching store end over rest j
+  pub going-past : {store : List ℕ} {end : Maybe ℕ} {rest i : ℕ} {o : Maybe ℕ} → NextAbout p cs i o → Reaching store end rest i → Reaching store end rest (place_in cs o)
   going-past n r =
       record {
         given = r.given;
         whole = r.whole ∙ ap (λ l. r.given ++ collect by l) (about-past p cs n);
-        large = r.large;
-        low = r.low;
         kept = r.kept;
-        reaches = r.reaches;
-        words = r.words;
+        low = r.low;
+        reached = r.reached;
         paid = r.paid ∙ ap (λ l. left + matchings N ts l) (about-past p cs n);
       }
 
   -- No clause is left.
-  module _ {store : List ℕ} {end : ℕ} {over : Bool} {rest i : ℕ} (h : length cs ≤ i) (r : Reaching store end over rest i) where
-    none_after : clauses_about p (drop i cs) ≡ []
-    unfolding clauses_about
-    none_after = rw (drop_of_length-le cs {i = i} h, clauses_about)
-
-    all-given : all ≡ r.given
-    unfolding collect
-    all-given = r.whole ∙ rw none_after (append-nil r.given)
-
-    all_paid : sum + rest ≡ left
-    all_paid = omega (arith, r.paid, ap (matchings N ts) none_after, matchings-none N ts)
-
-    pub going-last : over ≡ false → Writes store₀ base all sum left store (kinds.To end rest)
-    going-last e = rw all-given (r.large ∙ e, r.kept, r.reaches e, r.words e, all_paid)
-
-    pub going-over : over ≡ true → Writes store₀ base all sum left store (kinds.Oversized rest)
-    going-over e = rw all-given (r.large ∙ e, r.kept, all_paid)
+  pub going-last : {store : List ℕ} {end : Maybe ℕ} {rest : ℕ} → Reaching store end rest (length cs) → Writes store₀ base all sum left store (Some (record { held = end; left = rest }))
+  unfolding clauses_about collect
+  going-last {store} {end} {rest} r =
+      let none-after : clauses_about p (drop (length cs) cs) ≡ [] = rw (drop_of_length-le cs {i = length cs} (omega arith), clauses_about) in
+      let all-given : all ≡ r.given = r.whole ∙ rw none-after (append-nil r.given) in
+      rw all-given (r.reached, r.kept, omega (arith, r.paid, ap (matchings N ts) none-after, matchings-none N ts))
 
   -- Clause i, which is about the predicate.
-  module _ {store : List ℕ} {end : ℕ} {over : Bool} {rest i : ℕ} (c : Clause) (place : drop i cs ≡ c ∷ drop (i + 1) cs) (about : c.predicate ≡ p) (r : Reaching store end over rest i) where
+  module _ {store : List ℕ} {end : Maybe ℕ} {rest i : ℕ} (c : Clause) (place : drop i cs ≡ c ∷ drop (i + 1) cs) (about : c.predicate ≡ p) (r : Reaching store end rest i) where
     next-about : clauses_about p (drop i cs) ≡ c ∷ clauses_about p (drop (i + 1) cs)
     next-about = ap (clauses_about p) place ∙ about-here p c (drop (i + 1) cs) about
 
@@ -227,54 +220,52 @@ module _ (by : Clause → Option Goal) (N : ℕ) (ts : Terms) (p : ℕ) (cs : Li
     next-paid : rest + sum ≡ left + (equations_of N ts c + matchings N ts (clauses_about p (drop (i + 1) cs)))
     next-paid = r.paid ∙ ap (left +◌) (ap (matchings N ts) next-about ∙ matchings-one N ts c (clauses_about p (drop (i + 1) cs)))
 
-    pub going-unpaid : rest < equations_of N ts c → Writes store₀ base all sum left store kinds.Unpaid
+    pub going-unpaid : rest < equations_of N ts c → Writes store₀ base all sum left store None
     going-unpaid h = (omega (arith, next-paid), r.kept)
 
     pub going_on : (child : List ℕ) (answer : Resolved) (l : ℕ) → equations_of N ts c + l ≡ rest → IsResolvent (by c) child answer → length store ≡ length store₀
-        → (store' : List ℕ) (end' : ℕ) (over' : Bool) → Placed store end over child answer store' end' over' → Reaching store' end' over' l (i + 1)
+        → (store' : List ℕ) (end' : Maybe ℕ) → Placed store end child answer store' end' → Reaching store' end' l (i + 1)
     unfolding keep_some
-    going_on child answer l q h long store' end' over' k = go (by c) answer h next-whole k
+    going_on child answer l q h long store' end' k = go (by c) answer h next-whole end r.low r.reached k
       where
         paid' : l + sum ≡ left + matchings N ts (clauses_about p (drop (i + 1) cs))
         paid' = omega (arith, next-paid, q)
 
         go : (o : Option Goal) (answer : Resolved) → IsResolvent o child answer → all ≡ r.given ++ keep_some o (collect by (clauses_about p (drop (i + 1) cs)))
-            → Placed store end over child answer store' end' over' → Reaching store' end' over' l (i + 1)
-        go none Nothing h e k =
-            rw (k.0, k.1, k.2)
-            record { given = r.given; whole = e; large = r.large; low = r.low; kept = r.kept; reaches = r.reaches; words = r.words; paid = paid' }
-        go none (Child w) h e k = elim h [ ]
-        go none Oversized h e k = elim h [ ]
-        go (some g) Nothing h e k = elim h [ ]
-        go (some g) (Child w) h e k =
-            let xs = take w child in
-            let b : base ≤ end = r.low in
-            let n : end + length xs ≡ end + w = ap (end +◌) (ap length h.2 ∙ goal-length (marked pending g) ∙ sym h.0) in
-            let longer = words_of-append r.given (g ∷ []) in
-            rw (k.1, k.2)
-            record {
-              given = r.given ++ (g ∷ []);
-              whole = e ∙ simp append_assoc;
-              large = one-more-short r.given g over r.large (omega (arith, h.0, h.1));
-              low = omega (arith, r.low);
-              kept = ⊎_elim (λ q. rw q.1 (take-sets-before xs store base end b ∙ r.kept)) (λ q. rw q.1 r.kept) k.0;
-              reaches = λ z. omega (arith, r.reaches z, longer, h.0);
-              words = λ z m.
-                  ⊎_elim
-                  (λ q. rw (q.1, one-more-written r.given g, take-sets xs store (end + w) end n q.0, r.words z (omega arith), h.2)
-                  (append_assoc (take base store₀) (write_goals (unmarked r.given)) (write_goal (marked pending g))))
-                  (λ q. absurd (omega arith)) k.0;
-              paid = paid';
-            }
-        go (some g) Oversized h e k =
+            → (end : Maybe ℕ) → ((e : ℕ) → end ≡ Some e → base ≤ e) → WritesTo store₀ base r.given store end → Placed store end child answer store' end' → Reaching store' end' l (i + 1)
+        go none Nothing h e None b w k = rw (k.0, k.1) record { given = r.given; whole = e; kept = r.kept; low = λ n z. cc; reached = w; paid = paid' }
+        go none Nothing h e (Some at) b w k = rw (k.0, k.1) record { given = r.given; whole = e; kept = r.kept; low = b; reached = w; paid = paid' }
+        go none (Child n) h e end b w k = elim h [ ]
+        go none Oversized h e end b w k = elim h [ ]
+        go (some g) Nothing h e end b w k = elim h [ ]
+        go (some g) (Child n) h e None b w k =
             rw (k.0, k.1)
+            record { given = r.given ++ (g ∷ []); whole = e ∙ simp append_assoc; kept = r.kept; low = λ n z. cc; reached = over-more r.given g w; paid = paid' }
+        go (some g) (Child n) h e (Some at) b w k =
+            let xs = take n child in
+            let low : base ≤ at = b at refl in
+            let m : at + length xs ≡ at + n = ap (at +◌) (ap length h.2 ∙ goal-length (marked pending g) ∙ sym h.0) in
+            let longer = words_of-append r.given (g ∷ []) in
+            rw k.1
             record {
               given = r.given ++ (g ∷ []);
               whole = e ∙ simp append_assoc;
-              large = some-over r.given g [] h ∙ sym k.2;
-              low = r.low;
-              kept = r.kept;
-              reaches = λ z. absurd (true≢false (sym k.2 ∙ z));
-              words = λ z m. absurd (true≢false (sym k.2 ∙ z));
+              kept = ⊎_elim (λ q. rw q.1 (take-sets-before xs store base at low ∙ r.kept)) (λ q. rw q.1 r.kept) k.0;
+              low = λ k z. let same : k ≡ at + n = cc in omega arith;
+              reached = (
+                one-more-short r.given g false w.0 (omega (arith, h.0, h.1)),
+                omega (arith, w.1, longer, h.0),
+                λ f.
+                    ⊎_elim
+                    (λ q. rw (q.1, one-more-written r.given g, take-sets xs store (at + n) at m q.0, w.2 (omega arith), h.2)
+                    (append_assoc (take base store₀) (write_goals (unmarked r.given)) (write_goal (marked pending g))))
+                    (λ q. absurd (omega arith)) k.0,
+              );
               paid = paid';
             }
+        go (some g) Oversized h e None b w k =
+            rw (k.0, k.1)
+            record { given = r.given ++ (g ∷ []); whole = e ∙ simp append_assoc; kept = r.kept; low = λ n z. cc; reached = over-more r.given g w; paid = paid' }
+        go (some g) Oversized h e (Some at) b w k =
+            rw (k.0, k.1)
+            record { given = r.given ++ (g ∷ []); whole = e ∙ simp append_assoc; kept = r.kept; low = λ n z. cc; reached = some-over r.given g [] h; paid = paid' }

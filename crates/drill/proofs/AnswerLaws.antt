@@ -17,12 +17,10 @@ use Rattle.rules.proofs.DeckLaws.{fit-facts}
 use Rattle.deck.specs.Answers.{number_of}
 use Rattle.deck.specs.declared.Refusal.{Refusal as Why}
 use Rattle.deck.specs.declared.Refusal.TheVariants.{Drill}
-use Rattle.deck.specs.declared.Checked.TheVariants.{Refused as Rejected}
 use Rattle.deck.specs.Kinds.{symbols_of}
 use Rattle.deck.proofs.OpenLaws.{accepted-deck, accepted-symbols}
 use Rattle.deck.proofs.RefusalLaws.{refused-number}
-use Rattle.drill.specs.declared.Drilled.{Drilled}
-use Rattle.drill.specs.declared.Drilled.TheVariants.{Refused, Written}
+use Rattle.std.specs.Prelude.{Result, Ok, Err}
 use Rattle.drill.specs.Answers.{Answers}
 use Rattle.drill.specs.Successors.{rest_after, Given, Accepts}
 use Rattle.drill.proofs.PastLaws.{after-given}
@@ -40,7 +38,7 @@ copied to given h =
     ∙ take_at given (drop (0 + length given) to) (length given) refl
 
 -- What the call answers and leaves.
-pub record Call (o : Checked (List (List ℕ))) (r : Drilled) (before out : List ℕ) : Type 0 where
+pub record Call (o : Checked (List (List ℕ))) (r : Result ℕ Why) (before out : List ℕ) : Type 0 where
   pub answer : Answers o r
   pub list : out ≡ list_after o before
 
@@ -48,14 +46,14 @@ module _ (ws : List ℕ) (n : ℕ) (given before : List ℕ) where
   abbrev pub result : Checked (List (List ℕ))
   result = drill ws n given (length before)
 
-  pub refused-call : (why : Why) → number_of (Rejected why) ≡ checked_number (open_deck ws) → Call result (Refused why) before before
+  pub refused-call : (why : Why) → number_of (Err why) ≡ checked_number (open_deck ws) → Call result (Err why) before before
   unfolding drill and_then list_after
   refused-call why e = go (open_deck ws) e
     where
       go :
-          (o : Checked Deck) → number_of (Rejected why) ≡ checked_number o
+          (o : Checked Deck) → number_of (Err why) ≡ checked_number o
           → Call (and_then o (λ d. and_then (require bad_drill (leb n 8)) (λ _. and_then (obtain bad_drill (after given (drill_terms d.symbols n))) (λ terms. accepted (fitting (length before) terms)))))
-          (Refused why) before before
+          (Err why) before before
       go (refused r) q = record { answer = q; list = refl }
       go (accepted d) q = absurd (refused-number why q)
 
@@ -70,18 +68,18 @@ module _ (ws : List ℕ) (n : ℕ) (given before : List ℕ) where
     unfolding drill and_then
     opened = let d = accepted-deck ws opens in rw d.1 (rw (accepted-symbols ws d.0 d.1))
 
-    pub refused-drill : Accepts S n given false → Call result (Refused Drill) before before
+    pub refused-drill : Accepts S n given false → Call result (Err Drill) before before
     unfolding and_then require obtain list_after
-    refused-drill h = subst (λ o. Call o (Refused Drill) before before) (sym opened) (go (leb n 8) refl)
+    refused-drill h = subst (λ o. Call o (Err Drill) before before) (sym opened) (go (leb n 8) refl)
       where
-        go : (b : Bool) → leb n 8 ≡ b → Call (checked b (after given (drill_terms S n))) (Refused Drill) before before
+        go : (b : Bool) → leb n 8 ≡ b → Call (checked b (after given (drill_terms S n))) (Err Drill) before before
         go false e = record { answer = refl; list = refl }
-        go true e = subst (λ o. Call (checked true o) (Refused Drill) before before) (sym (h (leb-true n 8 e))) (record { answer = refl; list = refl })
+        go true e = subst (λ o. Call (checked true o) (Err Drill) before before) (sym (h (leb-true n 8 e))) (record { answer = refl; list = refl })
 
     pub written-call :
         (count : ℕ) (out : List ℕ) → Given S n given → count ≡ length (fitting (length before) (rest_after S n given))
-        → out ≡ list_after (accepted (fitting (length before) (rest_after S n given))) before → Call result (Written count) before out
+        → out ≡ list_after (accepted (fitting (length before) (rest_after S n given))) before → Call result (Ok count) before out
     unfolding and_then require obtain
     written-call count out g c l =
         let o : result ≡ accepted (fitting (length before) (rest_after S n given)) = opened ∙ ap (λ b. checked b (after given (drill_terms S n))) (le-leb n 8 g.small) ∙ ap (checked true) (after-given S n given g) in
-        subst (λ r. Call r (Written count) before out) (sym o) (record { answer = c; list = l })
+        subst (λ r. Call r (Ok count) before out) (sym o) (record { answer = c; list = l })

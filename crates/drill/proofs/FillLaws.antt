@@ -1,11 +1,14 @@
 -- Fillings: where there are none, the first functor that begins one, and how those after a given one go on.
-use Prim.Native.Nat.{ℕ, zero, suc, ◌+◌, ◌≤◌, ◌<◌}
+use Prim.Native.Nat.{ℕ, zero, suc, ◌+◌, ◌-◌, ◌≤◌, ◌<◌}
 use mathlib.Core.Path.{◌≡◌, refl, ap, ap₂, sym, ◌∙◌}
 use mathlib.Core.Bool.{true, false, true≢false}
 use mathlib.Core.Option.{Option, none, some, none-ne-some}
 use mathlib.Core.List.{List, [], ◌∷◌, ◌++◌, map}
 use native.Mathlib.Omega.{arith}
 use lib.ListN.{length, drop, get_elem?, drop_of_length-le}
+use lib.Dec.{eqb, eqb-suc-zero}
+use Rattle.std.specs.Prelude as answer
+use Rattle.std.specs.Prelude.{is_some, MatchOption}
 use Rattle.rules.specs.Syntax.{Symbol, functor, predicate}
 use Rattle.rules.specs.Drill.{with_first, fillings}
 use Rattle.drill.specs.Successors.{symbol_arity, arity_at, fills_from, fills, later, followers, Heads, nonempty, starts_with, Found, Sought}
@@ -42,21 +45,22 @@ unfolding nonempty
 nonempty-block f [] r e = absurd (true≢false (sym e))
 nonempty-block f (x ∷ l) r e = refl
 
--- No places, some cells; and no cells.
-pub nonempty-zero : (S : List Symbol) (m : ℕ) → 1 ≤ m → nonempty (fillings S m 0) ≡ false
+-- No places take no cells.
+pub nonempty-places-none : (S : List Symbol) (m : ℕ) → nonempty (fillings S m 0) ≡ eqb m 0
 unfolding nonempty fillings
-nonempty-zero S zero h = absurd (omega arith)
-nonempty-zero S (suc m) h = refl
-
-pub nonempty-nothing : (S : List Symbol) → nonempty (fillings S 0 0) ≡ true
-unfolding nonempty fillings
-nonempty-nothing S = refl
+nonempty-places-none S zero = refl
+nonempty-places-none S (suc m) = sym (eqb-suc-zero m)
 
 pub nonempty-over : (S : List Symbol) (m k : ℕ) → m < k → nonempty (fillings S m k) ≡ false
 unfolding nonempty
 nonempty-over S m k h = ap nonempty (fillings-none S m k h)
 
 -- The first functor that begins one: the symbols before it are passed.
+elem_there : (S : List Symbol) (i : ℕ) → i < length S → (s : Symbol) × (get_elem? S i ≡ some s)
+elem_there [] i h = absurd (omega arith)
+elem_there (t ∷ S) zero h = (t, refl)
+elem_there (t ∷ S) (suc i) h = elem_there S i (omega arith)
+
 drop-elem : (S : List Symbol) (i : ℕ) (s : Symbol) → get_elem? S i ≡ some s → drop i S ≡ s ∷ drop (suc i) S
 drop-elem [] i s e = absurd (none-ne-some s e)
 drop-elem (t ∷ S) zero s e = let q : t ≡ s = cc in ap {B = List Symbol} (◌∷ S) q
@@ -88,23 +92,52 @@ module _ (S : List Symbol) (m k i : ℕ) where
       }
   found_here from (predicate a) p e h = absurd (true≢false (sym h))
 
-pub sought-end : (S : List Symbol) (m k from f : ℕ) → later S m k f ≡ later S m k from → f ≡ length S → Sought S m k from f
-sought-end S m k from f p e = record { within = omega arith; missing = λ _. sym p ∙ later-end S m k f (omega arith); found = λ h. absurd (omega arith) }
+-- The symbols from one up to another are passed where none of them can be the first.
+module _ (S : List Symbol) (m k from : ℕ) where
+  abbrev passes : ℕ → Type 0
+  passes i = starts_with S m k (get_elem? S i) ≡ false
 
-pub sought-here : (S : List Symbol) (m k from f : ℕ) → f < length S → Found S m k from f → Sought S m k from f
-sought-here S m k from f h w = record { within = omega arith; missing = λ e. absurd (omega arith); found = λ _. w }
+  later-passed : (n : ℕ) → from + n ≤ length S → ((i : ℕ) → from ≤ i → i < from + n → passes i) → later S m k from ≡ later S m k (from + n)
+  later-passed zero l h = let z : from + 0 ≡ from = omega arith in ap (later S m k) (sym z)
+  later-passed (suc n) l h =
+      let t = elem_there S (from + n) (omega arith) in
+      let skipped : later S m k (from + n) ≡ later S m k (suc (from + n)) = later-skip S m k (from + n) t.0 t.1 (ap (starts_with S m k) (sym t.1) ∙ h (from + n) (omega arith) (omega arith)) in
+      let z : from + suc n ≡ suc (from + n) = omega arith in
+      later-passed n (omega arith) (λ i a b. h i a (omega arith)) ∙ skipped ∙ ap (later S m k) (sym z)
+
+  sought-none : from ≤ length S → ((i : ℕ) → from ≤ i → i < length S → passes i) → later S m k from ≡ []
+  sought-none l h =
+      later-passed (length S - from) (omega arith) (λ i a b. h i a (omega arith)) ∙ later-end S m k (from + (length S - from)) (omega arith)
+
+  sought-some : (f : ℕ) → from ≤ f → f < length S → starts_with S m k (get_elem? S f) ≡ true → ((i : ℕ) → from ≤ i → i < f → passes i) → Found S m k from f
+  sought-some f a l e h =
+      let n : from + (f - from) ≡ f = omega arith in
+      let t = elem_there S f l in
+      found_here S m k f from t.0 (sym (later-passed (f - from) (omega arith) (λ i a b. h i a (omega arith)) ∙ ap (later S m k) n)) t.1 (ap (starts_with S m k) (sym t.1) ∙ e)
+
+  pub sought-range :
+      (n : ℕ) (r : answer.Option ℕ) → n ≡ length S → from ≤ n
+      → MatchOption r ((i : ℕ) → from ≤ i → i < n → passes i) (λ i. (from ≤ i) × (i < n) × (starts_with S m k (get_elem? S i) ≡ true) × ((j : ℕ) → from ≤ j → j < i → passes j))
+      → Sought S m k from r
+  sought-range n answer.None e l w = sought-none (omega arith) (λ i a b. w i a (omega arith))
+  sought-range n (answer.Some f) e l w = sought-some f w.0 (omega (arith, w.1)) w.2 w.3
 
 -- All fillings are those from functor 0 on.
 fillings-later : (S : List Symbol) (m k : ℕ) → fillings S (suc m) (suc k) ≡ later S m k 0
 unfolding fillings later
 fillings-later S m k = refl
 
-pub nonempty-found : (S : List Symbol) (m k f : ℕ) → Found S m k 0 f → nonempty (fillings S (suc m) (suc k)) ≡ true
+nonempty-found : (S : List Symbol) (m k f : ℕ) → Found S m k 0 f → nonempty (fillings S (suc m) (suc k)) ≡ true
 nonempty-found S m k f w = ap nonempty (fillings-later S m k ∙ w.list) ∙ nonempty-block f (fillings S m (arity_at S f + k)) (later S m k (suc f)) w.fillable
 
-pub nonempty-missing : (S : List Symbol) (m k : ℕ) → later S m k 0 ≡ [] → nonempty (fillings S (suc m) (suc k)) ≡ false
+nonempty-missing : (S : List Symbol) (m k : ℕ) → later S m k 0 ≡ [] → nonempty (fillings S (suc m) (suc k)) ≡ false
 unfolding nonempty
 nonempty-missing S m k e = ap nonempty (fillings-later S m k ∙ e)
+
+-- There is a filling just where the search for its first functor finds one.
+pub sought-nonempty : (S : List Symbol) (m k : ℕ) (r : answer.Option ℕ) → Sought S m k 0 r → is_some r ≡ nonempty (fillings S (suc m) (suc k))
+sought-nonempty S m k answer.None w = sym (nonempty-missing S m k w)
+sought-nonempty S m k (answer.Some f) w = sym (nonempty-found S m k f w)
 
 -- Of some cells, a filling has at least one place.
 pub nonempty-places : (S : List Symbol) (m k : ℕ) → nonempty (fillings S m k) ≡ true → 1 ≤ m → 1 ≤ k
@@ -112,13 +145,6 @@ unfolding nonempty fillings
 nonempty-places S zero k e h = absurd (omega arith)
 nonempty-places S (suc m) zero e h = absurd (true≢false (sym e))
 nonempty-places S (suc m) (suc k) e h = omega arith
-
--- Where there is a filling, the search for its first functor finds one.
-pub sought-found : (S : List Symbol) (m k f : ℕ) → nonempty (fillings S (suc m) (suc k)) ≡ true → Sought S m k 0 f → f < length S
-sought-found S m k f e w = omega (arith, w.within, other)
-  where
-    other : f ≡ length S → ⊥
-    other q = true≢false (sym e ∙ nonempty-missing S m k (w.missing q))
 
 -- The least filling, and the next one.
 pub heads-block :

@@ -8,7 +8,7 @@ use native.Mathlib.Omega.{arith}
 use lib.ListN.{length, take}
 use Rattle.rules.specs.Syntax.{Symbol}
 use Rattle.rules.specs.Drill.{fillings, terms_from}
-use Rattle.drill.specs.Successors.{fills, followers, Heads, nonempty, rest_after, Begins}
+use Rattle.drill.specs.Successors.{fills, followers, Heads, nonempty, rest_after, BeginsHere}
 use Rattle.drill.proofs.FillLaws.{empty}
 
 -- The terms of `size` cells and more, n at most.
@@ -30,17 +30,9 @@ terms-skip S n size h e =
 -- The cells now hold ys, the first of the list.
 pub begins-with :
     (S : List Symbol) (n : ℕ) (list : List (List ℕ)) (cells ys : List ℕ) (size : ℕ) → length cells ≡ 8 → take size cells ≡ ys → 1 ≤ size → size ≤ n → fills S 1 ys ≡ true
-    → list ≡ ys ∷ rest_after S n ys → Begins S n list cells size
+    → list ≡ ys ∷ rest_after S n ys → BeginsHere S n list cells size
 begins-with S n list cells ys size r t h l v e =
-    record {
-      holds = record { room = r; short = l; valid = λ _. rw t v };
-      empty = λ z. absurd (omega arith);
-      begins = λ _. rw t e;
-    }
-
-pub begins-none : (S : List Symbol) (n : ℕ) (list : List (List ℕ)) (cells : List ℕ) → length cells ≡ 8 → list ≡ [] → Begins S n list cells 0
-begins-none S n list cells r e =
-    record { holds = record { room = r; short = omega arith; valid = λ h. absurd (omega arith) }; empty = λ _. e; begins = λ h. absurd (omega arith) }
+    record { holds = record { room = r; short = l; valid = λ _. rw t v }; some = h; begins = rw t e }
 
 -- The least term of a size.
 pub rest-least : (S : List Symbol) (n size : ℕ) (ys : List ℕ) → size ≤ n → length ys ≡ size → Heads S 1 (fillings S size 1) ys → terms_from S size (suc n - size) ≡ ys ∷ rest_after S n ys

@@ -9,11 +9,13 @@ use native.Mathlib.Omega.{arith}
 use borrow.Rule.Slice.PartMut.{put_mid}
 use lib.ListN.{length, get_or, take, drop, set, length-set, get_elem?}
 use lib.Seq.{get_or-set_same, take-length, drop-length}
+use Rattle.std.specs.Prelude as answer
+use Rattle.std.specs.Prelude.{is_some}
 use Rattle.rules.specs.Syntax.{Symbol, functor}
 use Rattle.rules.specs.Drill.{fillings}
 use Rattle.rules.proofs.CellLaws.{elem_below}
-use Rattle.drill.specs.Successors.{arity_at, fills, later, followers, Heads, nonempty, Sought, Advanced}
-use Rattle.drill.proofs.FillLaws.{nonempty-few, nonempty-places, sought-found, heads-none, heads-block, heads-least, fills_first, fills-few, advanced-inside, advanced-first}
+use Rattle.drill.specs.Successors.{arity_at, fills, later, followers, Heads, nonempty, Found, Sought, Advanced}
+use Rattle.drill.proofs.FillLaws.{nonempty-few, nonempty-places, sought-nonempty, heads-none, heads-block, heads-least, fills_first, fills-few, advanced-inside, advanced-first}
 
 -- The first cell, and the cells after it as they are lent.
 abbrev pub rest : List ℕ → List ℕ
@@ -57,20 +59,17 @@ module _ (S : List Symbol) (n k : ℕ) (cells : 1 ≤ n) (e : nonempty (fillings
   places : suc (k - 1) ≡ k
   places = omega (arith, least-places)
 
-  pub least-inside : (f : ℕ) → Sought S (n - 1) (k - 1) 0 f → f < length S
-  least-inside f w = sought-found S (n - 1) (k - 1) f (ap₂ (λ x y. nonempty (fillings S x y)) size places ∙ e) w
+  pub least-some : (r : answer.Option ℕ) → Sought S (n - 1) (k - 1) 0 r → is_some r ≡ true
+  least-some r w = sought-nonempty S (n - 1) (k - 1) r w ∙ ap₂ (λ x y. nonempty (fillings S x y)) size places ∙ e
 
-  pub least-next : (f : ℕ) → Sought S (n - 1) (k - 1) 0 f → nonempty (fillings S (n - 1) (arity_at S f + (k - 1))) ≡ true
-  least-next f w = (w.found (least-inside f w)).fillable
-
-  pub least-small : (f : ℕ) → Sought S (n - 1) (k - 1) 0 f → arity_at S f + (k - 1) ≤ n - 1
-  least-small f w = nonempty-few S (n - 1) (arity_at S f + (k - 1)) (least-next f w)
+  pub least-small : (f : ℕ) → Found S (n - 1) (k - 1) 0 f → arity_at S f + (k - 1) ≤ n - 1
+  least-small f w = nonempty-few S (n - 1) (arity_at S f + (k - 1)) w.fillable
 
   pub least-heads :
-      (f : ℕ) (ys : List ℕ) → Sought S (n - 1) (k - 1) 0 f → length ys ≡ n - 1 → Heads S (arity_at S f + (k - 1)) (fillings S (n - 1) (arity_at S f + (k - 1))) ys
+      (f : ℕ) (ys : List ℕ) → Found S (n - 1) (k - 1) 0 f → length ys ≡ n - 1 → Heads S (arity_at S f + (k - 1)) (fillings S (n - 1) (arity_at S f + (k - 1))) ys
       → Heads S k (fillings S n k) (f ∷ ys)
   least-heads f ys w l h =
-      subst₂ (λ x y. Heads S y (fillings S x y) (f ∷ ys)) size places (heads-least S (n - 1) (k - 1) f ys (w.found (least-inside f w)) l h)
+      subst₂ (λ x y. Heads S y (fillings S x y) (f ∷ ys)) size places (heads-least S (n - 1) (k - 1) f ys w l h)
 
 some-places : (S : List Symbol) (l : List ℕ) (k : ℕ) → 1 ≤ length l → fills S k l ≡ true → 1 ≤ k
 unfolding fills
@@ -127,19 +126,21 @@ module _ (S : List Symbol) (k : ℕ) (l : List ℕ) (cells : 1 ≤ length l) (e 
             ∙ advanced-first S (k - 1) f (rest l) (subst (λ b. followers S (b + (k - 1)) (rest l) ≡ []) p last)
             ∙ ap₂ (λ n i. later S n (k - 1) i) (rest-length l cells) (sym (add-one f))
 
-        pub next-end : (g : ℕ) → Sought S (length l - 1) (k - 1) (f + 1) g → g ≡ length S → followers S k l ≡ []
-        next-end g w z = here ∙ w.missing z
+        pub next-end : later S (length l - 1) (k - 1) (f + 1) ≡ [] → followers S k l ≡ []
+        next-end z = here ∙ z
 
         pub next-heads :
-            (g b : ℕ) (zs : List ℕ) → Sought S (length l - 1) (k - 1) (f + 1) g → g < length S → b ≡ arity_at S g → length zs ≡ length l - 1
+            (g b : ℕ) (zs : List ℕ) → Found S (length l - 1) (k - 1) (f + 1) g → b ≡ arity_at S g → length zs ≡ length l - 1
             → Heads S (b + (k - 1)) (fillings S (length l - 1) (b + (k - 1))) zs → Heads S k (followers S k l) (g ∷ zs)
-        next-heads g b zs w i r n h =
+        next-heads g b zs w r n h =
             subst₂ (λ x y. Heads S x y (g ∷ zs)) (sym many) (sym here)
-            (heads-block S (length l - 1) (k - 1) (f + 1) g zs (w.found i) n (subst (λ c. Heads S (c + (k - 1)) (fillings S (length l - 1) (c + (k - 1))) zs) r h))
+            (heads-block S (length l - 1) (k - 1) (f + 1) g zs w n (subst (λ c. Heads S (c + (k - 1)) (fillings S (length l - 1) (c + (k - 1))) zs) r h))
 
-pub sought-fillable :
-    (S : List Symbol) (m k from g b : ℕ) → Sought S m k from g → g < length S → b ≡ arity_at S g → nonempty (fillings S m (b + k)) ≡ true
-sought-fillable S m k from g b w i r = rw r (w.found i).fillable
+pub found_inside : (S : List Symbol) (m k from f : ℕ) → Found S m k from f → f < length S
+found_inside S m k from f w = elem_below S f (functor (arity_at S f)) w.symbol
+
+pub found_fillable : (S : List Symbol) (m k from g b : ℕ) → Found S m k from g → b ≡ arity_at S g → nonempty (fillings S m (b + k)) ≡ true
+found_fillable S m k from g b w r = rw r w.fillable
 
 pub put-length : (l ys : List ℕ) → 1 ≤ length l → length ys ≡ length (rest l) → length (put_mid 1 (length l - 1) l ys) ≡ length l
 put-length l ys h n = omega (arith, ap length (put_rest l ys h), rest-length l h)

@@ -1,15 +1,16 @@
 -- Terms written one after the other, as many as fit whole.
 use Prim.Native.Nat.{ℕ, ◌+◌, ◌-◌, ◌≤◌, ◌<◌}
-use mathlib.Core.Path.{◌≡◌, refl, ap, ap₂, sym, ◌∙◌}
+use mathlib.Core.Path.{◌≡◌, ap, ap₂, sym, ◌∙◌}
 use mathlib.Core.List.{List, [], ◌∷◌, ◌++◌, append_assoc, append-nil}
 use native.Mathlib.Omega.{arith}
-use lib.ListN.{length, take, drop, length-append, take-append-drop}
-use lib.Seq.{length-take-le, take_at, drop_at, drop-drop, sets, sets-eq, length-sets}
+use lib.ListN.{length, length-drop, take, drop, length-append, take-append-drop}
+use lib.Seq.{length-take-le, take_at, drop_at, drop-drop}
 use borrow.Author.Tests.{le-leb, lt-leb}
+use borrow.Rule.Slice.PartMut.{put_mid}
 use Rattle.rules.specs.Syntax.{Symbol}
 use Rattle.rules.specs.Refusals.{accepted}
 use Rattle.rules.specs.Drill.{fitting, joined, list_after}
-use Rattle.drill.specs.Successors.{rest_after, Holds, Begins}
+use Rattle.drill.specs.Successors.{rest_after, Holds, BeginsHere}
 
 -- As many as fit.
 fits_one : (room : ℕ) (t : List ℕ) (ts : List (List ℕ)) → length t ≤ room → fitting room (t ∷ ts) ≡ t ∷ fitting (room - length t) ts
@@ -35,21 +36,7 @@ pub record Wrote (all : List (List ℕ)) (before out : List ℕ) (count : ℕ) :
   pub number : count ≡ length (fitting (length before) all)
   pub words : out ≡ list_after (accepted (fitting (length before) all)) before
 
-pub writing_start : (S : List Symbol) (n : ℕ) (before cells : List ℕ) (size : ℕ) → Holds S n cells size → Writing S n (rest_after S n (take size cells)) before cells size before 0 0
-writing_start S n before cells size h =
-    let all = rest_after S n (take size cells) in
-    let z : length before - 0 ≡ length before = omega arith in
-    record {
-      holds = h;
-      inside = omega arith;
-      few = omega arith;
-      same = refl;
-      untouched = refl;
-      words = ap (λ j. joined (fitting j all)) z;
-      number = omega (arith, ap (λ j. length (fitting j all)) z);
-    }
-
--- One turn, in which the cells come to hold the next term.
+-- One turn, in which the cells come to hold the next term, if there is one.
 module _
     (S : List Symbol)
     (n : ℕ)
@@ -59,9 +46,6 @@ module _
     (out : List ℕ)
     (at count : ℕ)
     (w : Writing S n all before cells size out at count)
-    (cells' : List ℕ)
-    (size' : ℕ)
-    (b : Begins S n (rest_after S n (take size cells)) cells' size')
   where
     abbrev left : List (List ℕ)
     left = rest_after S n (take size cells)
@@ -76,11 +60,11 @@ module _
           words = sym (take-append-drop at out) ∙ ap₂ ◌++◌ ws (w.untouched ∙ ap (λ j. drop j before) (sym l));
         }
 
-    pub writing-last : size' ≡ 0 → Wrote all before out count
+    pub writing-last : left ≡ [] → Wrote all before out count
     unfolding fitting
-    writing-last z = ended (ap (fitting (length before - at)) (b.empty z))
+    writing-last e = ended (ap (fitting (length before - at)) e)
 
-    module _ (h : n ≤ 8) (some : 1 ≤ size') where
+    module _ (cells' : List ℕ) (size' : ℕ) (b : BeginsHere S n left cells' size') (h : n ≤ 8) where
       abbrev x : List ℕ
       x = take size' cells'
 
@@ -88,7 +72,7 @@ module _
       taken = length-take-le size' cells' (omega (arith, b.holds.room, b.holds.short))
 
       pub writing-full : length out - at < size' → Wrote all before out count
-      writing-full f = ended (ap (fitting (length before - at)) (b.begins some) ∙ fits-none (length before - at) x (rest_after S n x) (omega (arith, taken, w.same)))
+      writing-full f = ended (ap (fitting (length before - at)) (b.begins) ∙ fits-none (length before - at) x (rest_after S n x) (omega (arith, taken, w.same)))
 
       module _ (f : size' ≤ length out - at) where
         abbrev next : List (List ℕ)
@@ -97,32 +81,38 @@ module _
         split : fitting (length before - at) left ≡ x ∷ next
         split =
             let room : length before - at - length x ≡ length before - (at + size') = omega (arith, taken) in
-            ap (fitting (length before - at)) (b.begins some)
+            ap (fitting (length before - at)) (b.begins)
             ∙ fits_one (length before - at) x (rest_after S n x) (omega (arith, taken, w.same))
             ∙ ap (λ j. x ∷ fitting j (rest_after S n x)) room
 
-        placed : sets out at x ≡ take at out ++ x ++ drop (at + size') out
-        placed = sets-eq x out at (omega (arith, taken, w.inside, w.same)) ∙ ap (λ j. take at out ++ x ++ drop (at + j) out) taken
+        abbrev placed : List ℕ
+        placed = put_mid at (at + size' - at) out x
+
+        placed-parts : placed ≡ (take at out ++ x) ++ drop (at + size') out
+        placed-parts =
+            let end : at + (at + size' - at) ≡ at + size' = omega arith in
+            ap (λ t. take at out ++ (x ++ t)) (drop-drop (at + size' - at) at out ∙ ap (λ j. drop j out) end)
+            ∙ sym (append_assoc (take at out) x (drop (at + size') out))
 
         front : length (take at out ++ x) ≡ at + size'
         front = omega (arith, length-append (take at out) x, length-take-le at out (omega (arith, w.inside, w.same)), taken)
 
-        pub writing_more : Writing S n all before cells' size' (sets out at x) (at + size') (count + 1)
+        pub writing_more : Writing S n all before cells' size' placed (at + size') (count + 1)
         unfolding joined
         writing_more =
             record {
               holds = b.holds;
               inside = omega (arith, w.same, w.inside);
-              few = omega (arith, w.few);
-              same = length-sets out at x ∙ w.same;
+              few = omega (arith, w.few, b.some);
+              same = omega (arith, ap length placed-parts, length-append (take at out ++ x) (drop (at + size') out), front, length-drop (at + size') out, w.same, w.inside);
               untouched =
-                  ap (drop (at + size')) placed
+                  ap (drop (at + size')) placed-parts
                   ∙ drop_at (take at out ++ x) (drop (at + size') out) (at + size') front
                   ∙ sym (drop-drop size' at out)
                   ∙ ap (drop size') w.untouched
                   ∙ drop-drop size' at before;
               words =
-                  ap (◌++ joined next) (ap (take (at + size')) placed ∙ take_at (take at out ++ x) (drop (at + size') out) (at + size') front)
+                  ap (◌++ joined next) (ap (take (at + size')) placed-parts ∙ take_at (take at out ++ x) (drop (at + size') out) (at + size') front)
                   ∙ append_assoc (take at out) x (joined next)
                   ∙ ap (λ l. take at out ++ joined l) (sym split)
                   ∙ w.words;

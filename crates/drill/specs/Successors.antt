@@ -1,10 +1,10 @@
 -- The fillings of places by cells, as the code goes through them: those after a given one, whether there is any, and the table of that.
 use Rattle.std.specs.Prelude.{ℕ, zero, suc, ◌+◌, ◌-◌, ◌/◌, ◌%◌, ◌≤◌, ◌<◌, ◌≡◌, Bool, true, false, List, [], ◌∷◌, ◌++◌, map, length, get_or, take, drop}
+use Rattle.std.specs.Prelude as answer
 use Rattle.std.proofs.Math.Option.{Option, none, some}
 use Rattle.std.proofs.Math.ListN.{get_elem?}
 use Rattle.rules.specs.Syntax.{Symbol, functor, predicate}
 use Rattle.rules.specs.Drill.{with_first, fillings, terms_from, drill_terms, after}
-use Rattle.deck.specs.Kinds.{symbols_of}
 
 -- The number of terms that follow symbol f.
 abbrev pub symbol_arity : Option Symbol → ℕ
@@ -53,29 +53,19 @@ starts_with S m k (some (functor a)) = nonempty (fillings S m (a + k))
 starts_with S m k (some (predicate a)) = false
 
 -- Place 8 m + k of the table says whether k places can be filled by m cells; the first n places are filled in.
-unfoldable pub bit : Bool → ℕ
-bit true = 1
-bit false = 0
-
-pub record Known (S : List Symbol) (table : List ℕ) (n : ℕ) : Type 0 where
+pub record Known (S : List Symbol) (table : List Bool) (n : ℕ) : Type 0 where
   pub size : length table ≡ 64
-  pub at : (j : ℕ) → j < n → get_or table j 0 ≡ bit (nonempty (fillings S (j / 8) (j % 8)))
+  pub at : (j : ℕ) → j < n → get_or table j false ≡ nonempty (fillings S (j / 8) (j % 8))
 
--- The least functor at or above `from` with which the first of k + 1 places can be filled, so that m cells fill the others; the number of symbols where there is none.
+-- The least functor at or above `from` with which the first of k + 1 places can be filled, so that m cells fill the others.
 pub record Found (S : List Symbol) (m k from f : ℕ) : Type 0 where
   pub symbol : get_elem? S f ≡ some (functor (arity_at S f))
   pub fillable : nonempty (fillings S m (arity_at S f + k)) ≡ true
   pub list : later S m k from ≡ map (f ∷◌) (fillings S m (arity_at S f + k)) ++ later S m k (suc f)
 
-pub record Sought (S : List Symbol) (m k from f : ℕ) : Type 0 where
-  pub within : f ≤ length S
-  pub missing : f ≡ length S → later S m k from ≡ []
-  pub found : f < length S → Found S m k from f
-
--- What the functions below the public one are given: the symbol words and the table.
-pub record Ready (symbols table : List ℕ) : Type 0 where
-  pub few : length symbols ≤ 4096
-  pub known : Known (symbols_of symbols) table 64
+abbrev pub Sought : List Symbol → ℕ → ℕ → ℕ → answer.Option ℕ → Type 0
+Sought S m k from answer.None = later S m k from ≡ []
+Sought S m k from (answer.Some f) = Found S m k from f
 
 -- The cells were advanced to the next filling of k places, or there is none.
 abbrev pub Advanced : List Symbol → ℕ → List ℕ → Bool → List ℕ → Type 0
@@ -92,11 +82,15 @@ pub record Holds (S : List Symbol) (n : ℕ) (cells : List ℕ) (size : ℕ) : T
   pub short : size ≤ n
   pub valid : 1 ≤ size → fills S 1 (take size cells) ≡ true
 
--- A list of drill terms begins with the one that the cells now hold; it is empty where `size` is 0.
-pub record Begins (S : List Symbol) (n : ℕ) (list : List (List ℕ)) (cells : List ℕ) (size : ℕ) : Type 0 where
+-- A list of drill terms begins with the one that the cells now hold in their first places, or it is empty.
+pub record BeginsHere (S : List Symbol) (n : ℕ) (list : List (List ℕ)) (cells : List ℕ) (size : ℕ) : Type 0 where
   pub holds : Holds S n cells size
-  pub empty : size ≡ 0 → list ≡ []
-  pub begins : 1 ≤ size → list ≡ take size cells ∷ rest_after S n (take size cells)
+  pub some : 1 ≤ size
+  pub begins : list ≡ take size cells ∷ rest_after S n (take size cells)
+
+abbrev pub Begins : List Symbol → ℕ → List (List ℕ) → List ℕ → answer.Option ℕ → Type 0
+Begins S n list cells answer.None = (length cells ≡ 8) × (list ≡ [])
+Begins S n list cells (answer.Some size) = BeginsHere S n list cells size
 
 -- The given cells are none, or a term of at most n cells, n at most 8; and whether they are.
 pub record Given (S : List Symbol) (n : ℕ) (given : List ℕ) : Type 0 where

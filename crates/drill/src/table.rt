@@ -4,11 +4,11 @@ ghost use Rattle.std.proofs.Math.ListN.{get_elem?};
 ghost use Rattle.rules.specs.Drill.{fillings};
 ghost use Rattle.signature.specs.Symbols.{symbol_count};
 ghost use Rattle.deck.specs.Kinds.{symbols_of};
-ghost use Rattle.drill.specs.Successors.{starts_with, nonempty, bit, Known, Sought};
+ghost use Rattle.drill.specs.Successors.{starts_with, nonempty, Known, Sought};
 
 // Whether k + 1 places can be filled by m + 1 cells of which symbol f is the first.
-fn starts(symbols: &[u16], table: &[u16], m: usize, k: usize, f: usize) -> bool
-    requires m_bound { (m < 8) × (k ≤ 8) × (f < symbol_count symbols.now) }
+fn starts(symbols: &[u16], table: &[bool], m: usize, k: usize, f: usize) -> bool
+    requires bounds { (m < 8) × (k ≤ 8) × (f < symbol_count symbols.now) }
     requires known { Known (symbols_of symbols.now) table.now (8 * m + 8) }
     ensures { result ≡ starts_with (symbols_of symbols.now) m k (get_elem? (symbols_of symbols.now) f) }
 {
@@ -19,52 +19,40 @@ fn starts(symbols: &[u16], table: &[u16], m: usize, k: usize, f: usize) -> bool
     if m < arity + k {
         return false;
     }
-    table[8 * m + arity + k] == 1
+    table[8 * m + arity + k]
 }
 
-// The least functor at or above `from` that can be the first cell, or the number of symbols. It goes through the symbols once.
-pub fn seek(symbols: &[u16], table: &[u16], m: usize, k: usize, from: usize) -> usize
-    requires m_bound { (m < 8) × (k ≤ 8) × (from ≤ symbol_count symbols.now) }
+// The least functor at or above `from` that can be the first cell. It goes through the symbols once.
+pub fn seek(symbols: &[u16], table: &[bool], m: usize, k: usize, from: usize) -> Option<usize>
+    requires bounds { (m < 8) × (k ≤ 8) × (from ≤ symbol_count symbols.now) }
     requires known { Known (symbols_of symbols.now) table.now (8 * m + 8) }
     ensures { Sought (symbols_of symbols.now) m k from result }
 {
-    let mut f = from;
-    while f < signature::count(symbols) {
-        if starts(symbols, table, m, k, f) {
-            return f;
-        }
-        f += 1;
-    }
-    f
+    (from..signature::count(symbols)).find(|f| starts(symbols, table, m, k, *f))
 }
 
 // Whether k places can be filled by m cells, from the places of the table before.
-fn entry(symbols: &[u16], table: &[u16], m: usize, k: usize) -> u16
+fn entry(symbols: &[u16], table: &[bool], m: usize, k: usize) -> bool
     requires { (m < 8) × (k < 8) × Known (symbols_of symbols.now) table.now (8 * m + k) }
-    ensures { result ≡ bit (nonempty (fillings (symbols_of symbols.now) m k)) }
+    ensures { result ≡ nonempty (fillings (symbols_of symbols.now) m k) }
 {
     if k == 0 {
-        return if m == 0 { 1 } else { 0 };
+        return m == 0;
     }
     if m < k {
-        return 0;
+        return false;
     }
-    if seek(symbols, table, m - 1, k - 1, 0) < signature::count(symbols) {
-        1
-    } else {
-        0
-    }
+    seek(symbols, table, m - 1, k - 1, 0).is_some()
 }
 
-// Fills the table, row by row.
-pub fn fill_table(symbols: &[u16], table: &mut [u16])
-    requires { length table.old ≡ 64 }
-    ensures { Known (symbols_of symbols.now) table.new 64 }
+// The table, made row by row.
+pub fn fillable(symbols: &[u16]) -> [bool; 64]
+    ensures { Known (symbols_of symbols.now) result 64 }
 {
-    let mut i = 0;
-    while i < 64 {
-        let fillable = entry(symbols, table, i / 8, i % 8);
-        table[i] = fillable;
-        i += 1;
+    let mut table = [false; 64];
+    for i in 0..64 {
+        let place = entry(symbols, &table, i / 8, i % 8);
+        table[i] = place;
     }
+    table
 }

@@ -1,8 +1,6 @@
 // Drill terms of small decks: the refusal's number or how many terms were written, and then the words of the lent list.
 #![tactic(auto)]
 
-use deck::Checked;
-use drill::Drilled;
 use std::io;
 
 fn show_word(rt: &impl Print, word: u16) -> io::Result<()> {
@@ -20,13 +18,8 @@ fn show(rt: &impl Print, kind: &[u8], number: u64, list: &[u16]) -> io::Result<(
 
 fn call(rt: &impl Print, deck: &[u16], n: u32, given: &[u16], list: &mut [u16]) -> io::Result<()> {
     match drill::drill(deck, n, given, list) {
-        Drilled::Refused(why) => show(
-            rt,
-            b"refused ",
-            deck::number(Checked::Refused(why)) as u64,
-            list,
-        ),
-        Drilled::Written(count) => show(rt, b"written ", count as u64, list),
+        Ok(count) => show(rt, b"written ", count as u64, list),
+        Err(why) => show(rt, b"refused ", u64::from(u32::from(why)), list),
     }
 }
 

@@ -19,8 +19,7 @@ use Rattle.deck.specs.Answers.{refusal_for}
 use Rattle.deck.specs.declared.Refusal.{Refusal as Why}
 use Rattle.deck.proofs.RefusalLaws.{number-injective}
 use Rattle.drill.specs.Answers.{Answers}
-use Rattle.drill.specs.declared.Drilled.{Drilled}
-use Rattle.drill.specs.declared.Drilled.TheVariants.{Refused, Written}
+use Rattle.std.specs.Prelude.{Result, Ok, Err}
 use Rattle.drill.proofs.PublicDrill.{drill-accepted}
 use Rattle.listing.specs.Put.{Put}
 use Rattle.listing.specs.Printed.{Printed}
@@ -69,7 +68,7 @@ trees-of S n (t ∷ terms) a =
 pub record Listed (ws : List ℕ) (n : ℕ) (given list : List ℕ) (number : ℕ) : Type 0 where
   pub trees : Terms
   pub run : words_run ws n given ≡ accepted trees
-  pub standing : TermsAt (symbol_words ws) list 0 trees
+  pub standing : TermsAt (symbol_words ws) list trees
   pub many : count trees ≡ number
   pub short : length (print_lines trees) ≤ 32768
   pub fits : header_fits ws ≡ true
@@ -102,19 +101,19 @@ module _ (ws : List ℕ) (n : ℕ) (given : List ℕ) where
   -- The lent list has m words.
   module _ (m : ℕ) (room : m ≡ 4096) where
     pub list_done :
-        (before list : List ℕ) (r : Drilled) (count : ℕ) → Answers (drill ws n given m) r → list ≡ list_after (drill ws n given m) before → r ≡ Written count
+        (before list : List ℕ) (r : Result ℕ Why) (count : ℕ) → Answers (drill ws n given m) r → list ≡ list_after (drill ws n given m) before → r ≡ Ok count
         → Listed ws n given list count
     unfolding list_after
-    list_done before list r count a l e = go (drill ws n given m) refl (subst (λ (x : Drilled). Answers (drill ws n given m) x) e a) l
+    list_done before list r count a l e = go (drill ws n given m) refl (subst (λ (x : Result ℕ Why). Answers (drill ws n given m) x) e a) l
       where
-        go : (o : Checked (List (List ℕ))) → drill ws n given m ≡ o → Answers o (Written count) → list ≡ list_after o before → Listed ws n given list count
+        go : (o : Checked (List (List ℕ))) → drill ws n given m ≡ o → Answers o (Ok count) → list ≡ list_after o before → Listed ws n given list count
         go (refused k) q z w = absurd z
         go (accepted terms) q z w = subst (Listed ws n given list) (sym z) (of-terms before list terms (subst (λ k. drill ws n given k ≡ accepted terms) room q) w)
 
-    pub list-refused : (r : Drilled) (why : Why) → Answers (drill ws n given m) r → r ≡ Refused why → drill ws n given 4096 ≡ refused (refusal_for why)
-    list-refused r why a e = subst (λ k. drill ws n given k ≡ refused (refusal_for why)) room (go (drill ws n given m) (subst (λ (x : Drilled). Answers (drill ws n given m) x) e a))
+    pub list-refused : (r : Result ℕ Why) (why : Why) → Answers (drill ws n given m) r → r ≡ Err why → drill ws n given 4096 ≡ refused (refusal_for why)
+    list-refused r why a e = subst (λ k. drill ws n given k ≡ refused (refusal_for why)) room (go (drill ws n given m) (subst (λ (x : Result ℕ Why). Answers (drill ws n given m) x) e a))
       where
-        go : (o : Checked (List (List ℕ))) → Answers o (Refused why) → o ≡ refused (refusal_for why)
+        go : (o : Checked (List (List ℕ))) → Answers o (Err why) → o ≡ refused (refusal_for why)
         go (refused k) z = ap refused (number-injective k (refusal_for why) (sym z))
         go (accepted terms) z = absurd z
 

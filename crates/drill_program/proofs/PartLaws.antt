@@ -1,72 +1,55 @@
 -- What the program's run comes to, test by test.
-use Prim.Native.Nat.{ℕ, ◌-◌, ◌≤◌}
-use mathlib.Core.Path.{◌≡◌, refl, ap, ap₂, sym, ◌∙◌}
-use mathlib.Core.Bool.{Bool, true, false, false≢true, ◌&&◌, and-eq-true_iff}
-use mathlib.Core.List.{List, [], ◌∷◌}
-use native.Mathlib.Omega.{arith}
-use borrow.Author.Tests.{leb-true}
-use lib.ListN.{length, get_or, take, drop}
-use lib.Dec.{leb}
+use Rattle.std.proofs.Common.{◌≡◌, ℕ, ◌-◌, ◌%◌, ◌≤◌, ◌<◌, List, [], ◌∷◌, length, take, drop, get_or, refl, sym, ap, ap₂, ◌∙◌, arith}
+use Rattle.std.proofs.Math.Option.{Option}
 use lib.Seq.{take-length}
+use borrow.Author.Tests.{le-leb, lt-leb, eq-eqb, ne_eqb}
 use Rattle.rules.specs.Syntax.{Deck}
-use Rattle.rules.specs.Terms.{Terms}
-use Rattle.rules.specs.Refusals.{Refusal, bad_header, bad_drill, refusal_number, Checked, refused, accepted, and_then, require, obtain, checked_number}
+use Rattle.rules.specs.Refusals.{Refusal, bad_drill, Checked, refused, accepted, and_then, require}
 use Rattle.rules.specs.Decks.{open_deck}
-use Rattle.rules.specs.Listing.{listing}
 use Rattle.rules.specs.Program.{words_from, even, deck_file}
 use Rattle.rules.specs.Drill.{drill}
-use Rattle.rules.specs.DrillProgram.{drill_input, drill_run, drill_prints}
-use Rattle.deck.proofs.RefusalLaws.{number_small}
+use Rattle.rules.specs.DrillProgram.{drill_input, drill_run}
 use Rattle.drill.proofs.PublicDrill.{drill-unopened}
-use Rattle.listing.specs.Put.{Put}
-use Rattle.listing.specs.Printed.{file_of, deck_fits, Printed}
-use Rattle.listing.proofs.PrintedLaws.{line-printed}
-use Rattle.drill_program.specs.Runs.{input_fits, words_run, asked_run, opened_run}
+use Rattle.drill_program.specs.Runs.{words_run}
 
--- A number that is not 0 is that of a refusal.
-pub refusal-of : {A : Type 0} (x : Checked A) (number : ℕ) → number ≡ checked_number x → (number ≡ 0 → ⊥) → (n : Refusal) × (x ≡ refused n) × (refusal_number n ≡ number)
-refusal-of (refused n) number e h = (n, refl, sym e)
-refusal-of (accepted a) number e h = absurd (h e)
+-- The deck file, the deck's words, and the input.
+module _ (file : Option (List ℕ)) (input : List ℕ) where
+  pub drill_run-unread : (n : Refusal) → deck_file file ≡ refused n → drill_run file input ≡ refused n
+  unfolding drill_run and_then
+  drill_run-unread n e = rw e
 
-pub refusal-printed :
-    {out : List ℕ} {end : ℕ} {after : List ℕ} (x : Checked Terms) (n : Refusal) → x ≡ refused n → Put out 0 (listing (refused n)) end after → 19 ≤ length out
-    → Printed (drill_prints x) out end after
-unfolding drill_prints
-refusal-printed x n e a h = rw e (line-printed n (omega (arith, number_small n)) a h)
+  module _ (deck_words : List ℕ) (read : deck_file file ≡ accepted deck_words) where
+    pub drill_run-unopened : (n : Refusal) → open_deck deck_words ≡ refused n → drill_run file input ≡ refused n
+    unfolding drill_run and_then
+    drill_run-unopened n e = rw (read, e)
 
--- The deck file.
-pub file-refused : (present : Bool) (bytes input : List ℕ) → deck_fits present bytes ≡ false → drill_run (file_of present bytes) input ≡ refused bad_header
-unfolding drill_run deck_file and_then require obtain
-file-refused true bytes input e = rw e
-file-refused false bytes input e = refl
+    module _ (deck : Deck) (opens : open_deck deck_words ≡ accepted deck) where
+      pub drill_run-unasked : (n : Refusal) → drill_input input ≡ refused n → drill_run file input ≡ refused n
+      unfolding drill_run and_then
+      drill_run-unasked n e = rw (read, opens, e)
 
-pub file-opened : (present : Bool) (bytes input : List ℕ) → deck_fits present bytes ≡ true → drill_run (file_of present bytes) input ≡ opened_run (words_from bytes) input
-unfolding drill_run deck_file opened_run and_then require obtain
-file-opened true bytes input e = rw e
-file-opened false bytes input e = absurd (false≢true e)
+      pub drill_run-words : (asked : List ℕ) → drill_input input ≡ accepted asked → drill_run file input ≡ words_run deck_words (get_or asked 0 0) (drop 1 asked)
+      unfolding drill_run words_run and_then
+      drill_run-words asked e = rw (read, opens, e)
 
--- The deck's words, and the input's bytes.
-module _ (deck_words input : List ℕ) where
-  pub deck-refused : (n : Refusal) → open_deck deck_words ≡ refused n → opened_run deck_words input ≡ refused n
-  unfolding opened_run and_then
-  deck-refused n e = rw e
+-- The input's bytes.
+module _ (input : List ℕ) where
+  pub drill_input-odd : (length input % 2 ≡ 0 → ⊥) → drill_input input ≡ refused bad_drill
+  unfolding drill_input even and_then require
+  drill_input-odd h = rw (ne_eqb (length input % 2) 0 h)
 
-  pub deck-opened : (d : Deck) → open_deck deck_words ≡ accepted d → opened_run deck_words input ≡ asked_run deck_words input
-  unfolding opened_run asked_run words_run and_then
-  deck-opened d e = rw e
+  module _ (e : length input % 2 ≡ 0) where
+    pub drill_input-short : length input < 2 → drill_input input ≡ refused bad_drill
+    unfolding drill_input even and_then require
+    drill_input-short h = rw (eq-eqb (length input % 2) 0 e, lt-leb 2 (length input) h)
 
-  pub input-refused : input_fits input ≡ false → asked_run deck_words input ≡ refused bad_drill
-  unfolding asked_run drill_input and_then require
-  input-refused e = rw e
+    pub drill_input-long : 2 ≤ length input → 18 < length input → drill_input input ≡ refused bad_drill
+    unfolding drill_input even and_then require
+    drill_input-long a h = rw (eq-eqb (length input % 2) 0 e, le-leb 2 (length input) a, lt-leb (length input) 18 h)
 
-  pub input-words : input_fits input ≡ true → asked_run deck_words input ≡ words_run deck_words (get_or (words_from input) 0 0) (drop 1 (words_from input))
-  unfolding asked_run drill_input and_then require
-  input-words e = rw e
-
-pub input-sizes : (input : List ℕ) → input_fits input ≡ true → (2 ≤ length input) × (length input ≤ 18)
-input-sizes input e =
-    let h = (and-eq-true_iff (leb 2 (length input)) (leb (length input) 18)).0 ((and-eq-true_iff (even input) (leb 2 (length input) && leb (length input) 18)).0 e).1 in
-    (leb-true 2 (length input) h.0, leb-true (length input) 18 h.1)
+    pub drill_input-words : 2 ≤ length input → length input ≤ 18 → drill_input input ≡ accepted (words_from input)
+    unfolding drill_input even and_then require
+    drill_input-words a h = rw (eq-eqb (length input % 2) 0 e, le-leb 2 (length input) a, le-leb (length input) 18 h)
 
 pub some_word : (input : List ℕ) → 2 ≤ length input → 1 ≤ length (words_from input)
 unfolding words_from
@@ -74,18 +57,18 @@ some_word [] h = absurd (omega arith)
 some_word (low ∷ []) h = absurd (omega arith)
 some_word (low ∷ high ∷ bytes) h = omega arith
 
--- The cells after N.
-pub after-n : (ws : List ℕ) → 1 ≤ length ws → take (length ws - 1) (drop 1 ws) ≡ drop 1 ws
-after-n [] h = absurd (omega arith)
-after-n (w ∷ ws) h = let n : length (w ∷ ws) - 1 ≡ length ws = omega arith in ap (λ k. take k ws) n ∙ take-length ws
-
-pub as-asked : (ws input : List ℕ) (n : ℕ) (part : List ℕ) → n ≡ get_or input 0 0 → part ≡ drop 1 input → words_run ws (get_or input 0 0) (drop 1 input) ≡ words_run ws n part
-as-asked ws input n part e f = ap₂ (words_run ws) (sym e) (sym f)
+-- N and the cells after it.
+pub words_run-split : (ws input : List ℕ) (n : ℕ) → n ≡ get_or input 0 0 → 1 ≤ length input
+    → words_run ws (get_or input 0 0) (drop 1 input) ≡ words_run ws n (take (length input - 1) (drop 1 input))
+words_run-split ws [] n e h = absurd (omega arith)
+words_run-split ws (w ∷ rest) n e h =
+    let size : length (w ∷ rest) - 1 ≡ length rest = omega arith in
+    ap₂ (words_run ws) (sym e) (sym (ap (λ k. take k rest) size ∙ take-length rest))
 
 -- The call was refused.
-pub words-refused : (ws : List ℕ) (n : ℕ) (given : List ℕ) (r : Refusal) → drill ws n given 4096 ≡ refused r → words_run ws n given ≡ refused r
+pub words_run-refused : (ws : List ℕ) (n : ℕ) (given : List ℕ) (r : Refusal) → drill ws n given 4096 ≡ refused r → words_run ws n given ≡ refused r
 unfolding words_run and_then
-words-refused ws n given r e = go (open_deck ws) refl
+words_run-refused ws n given r e = go (open_deck ws) refl
   where
     go : (o : Checked Deck) → open_deck ws ≡ o → words_run ws n given ≡ refused r
     go (accepted d) q = rw (q, e)

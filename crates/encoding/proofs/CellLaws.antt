@@ -1,24 +1,34 @@
 -- Writing the cells of the clauses.
-use Prim.Native.Nat.{ℕ, zero, suc, ◌+◌, ◌-◌, ◌≤◌, ◌<◌}
+use Prim.Native.Nat.{ℕ, suc, ◌+◌, ◌-◌, ◌≤◌, ◌<◌}
 use mathlib.Core.Path.{◌≡◌, refl, ap, sym, ◌∙◌}
 use mathlib.Core.Bool.{Bool, true, false}
 use mathlib.Core.List.{List, [], ◌∷◌, map}
 use native.Mathlib.Omega.{arith}
 use native.Mathlib.Decide.{ℕ_discrete}
-use lib.ListN.{length, take, drop, set, length-set}
-use lib.Seq.{sets, slice, take-nil}
-use borrow.Author.Tests.{eq-eqb, ne_eqb, lt-leb, le-leb}
-use Rattle.text_rules.specs.TextTokens.{Kind, kind_number, Class, no_class, space, letter, zero_digit, digit, underscore, colon, minus, mark, class_number, class_of, is_class, numeral, value, Token, end_token, at_most, number_token, variable_token, implies_token, token_from, tokens, number, variable}
+use lib.ListN.{length, drop, length-set}
+use lib.Seq.{sets}
+use borrow.Author.Tests.{lt-leb, le-leb}
+use Rattle.std.specs.Prelude.{Option, Some, None, IfSome, unwrap_or}
+use Rattle.std.specs.List.{slice_range}
+use Rattle.text_rules.specs.TextTokens.{Kind, name, number, variable, dot, tilde, kind_number, Class, no_class, space, letter, zero_digit, digit, underscore, colon, minus, mark, class_of, is_class, numeral, value, Token, end_token, at_most, number_token, variable_token, implies_token, token_from, tokens}
+use Rattle.text_rules.specs.TextGrammar.{same_kind}
 use Rattle.text_rules.specs.TextWords.{Declaration, Use, Entry, a_variable, entry_after, entries, number_of, symbol_number, entry_cell}
 use Rattle.text_rules.specs.Text.{text_declarations}
-use Rattle.text.specs.Names.{last_with, name_at, is_name}
-use Rattle.text.specs.Scan.{Next}
+use Rattle.text.specs.declared.tokens.Kind.{Kind as Scanned_kind}
+use Rattle.text.specs.declared.tokens.Kind.TheVariants.{Invalid, Ending, Name, Number, Variable, Implies, Slash, Dot, Opening, Closing, Comma, Tilde}
 use Rattle.text.specs.declared.tokens.Token.{Token as Scanned}
-use Rattle.text.proofs.ClassLaws.{mark-range}
+use Rattle.text.specs.Hash.{last_with, found_at, is_name}
+use Rattle.text.specs.Kinds.{kind_of}
+use Rattle.text.specs.Names.{Table, name_at}
+use Rattle.text.specs.Scan.{Next}
+use Rattle.text.specs.Steps.{option_of}
 use Rattle.text.proofs.ReadLaws.{token_of}
+use Rattle.text.proofs.TokenLaws.{mark-kinds}
+use Rattle.naming.specs.Table.{Declared}
+use Rattle.naming.proofs.FindLaws.{find-number, find-below}
 use Rattle.encoding.specs.Walk.{takes}
-use Rattle.encoding.specs.Cells.{found_number, Numbered, found_cell, CellOf, cell_put}
-use Rattle.encoding.proofs.WalkLaws.{by_kind, takes-name, takes-variable, takes-other, use_of, entries-name, entries-variable, entries-other}
+use Rattle.encoding.specs.Cells.{found_cell, CellOf, cell_put}
+use Rattle.encoding.proofs.WalkLaws.{by_kind, by_dot, takes-name, takes-variable, takes-other, use_of, entries-name, entries-variable, entries-other}
 
 -- A variable that is a token is at most 1,023.
 at-most : (most : ℕ) (k : Kind) (v n : ℕ) → kind_number (at_most most k v) ≡ suc n → (v ≤ most) × (kind_number k ≡ suc n)
@@ -44,7 +54,7 @@ implies-first b m (c ∷ bs) e = go (is_class minus c) refl
     go false s = omega (arith, rw (s, implies_token) at e)
 
 by-class :
-    (c : Class) (b : ℕ) (bs : List ℕ) → (16 ≤ class_number c → 22 ≤ class_number c) → kind_number (token_from c b bs).kind ≡ 4
+    (c : Class) (b : ℕ) (bs : List ℕ) → ((k : Kind) → c ≡ mark k → 6 ≤ kind_number k) → kind_number (token_from c b bs).kind ≡ 4
     → value 0 (drop 1 (token_from c b bs).bytes) ≤ 1023
 unfolding token_from number_token
 by-class no_class b bs m e = absurd (omega arith)
@@ -55,7 +65,7 @@ by-class digit b bs m e = absurd (omega (arith, (at-most 15 number (value 0 (num
 by-class underscore b bs m e = variable-first b (length (b ∷ bs)) (numeral bs) e
 by-class colon b bs m e = absurd (implies-first b (length (b ∷ bs)) bs e)
 by-class minus b bs m e = absurd (omega arith)
-by-class (mark k) b bs m e = absurd (omega (arith, m (omega arith)))
+by-class (mark k) b bs m e = absurd (omega (arith, m k refl))
 
 small-first : (bs : List ℕ) (t : Token) (ts : List Token) → tokens 0 bs ≡ t ∷ ts → kind_number t.kind ≡ 4 → value 0 (drop 1 t.bytes) ≤ 1023
 unfolding tokens
@@ -68,99 +78,85 @@ small-first (b ∷ bs) t ts e k = go (is_class space b) refl (small-first bs t t
         let f = rw (s, tokens) at e in
         let q : token_from (class_of b) b bs ≡ t = cc in
         let h : kind_number (token_from (class_of b) b bs).kind ≡ 4 = ap (λ t. kind_number t.kind) q ∙ k in
-        rw q at (by-class (class_of b) b bs (mark-range b) h)
+        rw q at (by-class (class_of b) b bs (mark-kinds b) h)
 
-pub variable-small : (text : List ℕ) (at : ℕ) (r : Scanned) → Next text at r → r.kind ≡ 4 → r.value ≤ 1023
-variable-small text at r n e = omega (arith, n.variable e, small-first (drop at text) (token_of text r n.sort) _ n.scanned (n.kind ∙ e))
+pub variable-small : (text : List ℕ) (at : ℕ) (r : Scanned) → Next text at r → (v : ℕ) → r.kind ≡ Variable v → v ≤ 1023
+variable-small text at r n v e = omega (arith, n.variable v e, small-first (drop at text) (token_of text r) _ n.scanned (ap (λ k. kind_number (kind_of k)) e))
 
--- A token's bytes.
-pub bytes-slice : (from to : ℕ) (l : List ℕ) → take (to - from) (drop from l) ≡ slice from to l
-bytes-slice zero to l = let z : to - 0 ≡ to = omega arith in rw z refl
-bytes-slice (suc f) zero l = let z : 0 - suc f ≡ 0 = omega arith in rw z refl
-bytes-slice (suc f) (suc t) [] = take-nil (suc t - suc f)
-bytes-slice (suc f) (suc t) (x ∷ xs) = let z : suc t - suc f ≡ t - f = omega arith in rw z (bytes-slice f t xs)
+-- The code's kind of a name or of a variable.
+pub of-name : (k : Scanned_kind) → kind_of k ≡ name → k ≡ Name
+of-name k e = grind (arith, e)
+
+pub of-variable : (k : Scanned_kind) → kind_of k ≡ variable → (v : ℕ) × (k ≡ Variable v)
+of-variable Invalid e = let z : ⊥ = cc in absurd z
+of-variable Ending e = let z : ⊥ = cc in absurd z
+of-variable Name e = let z : ⊥ = cc in absurd z
+of-variable (Number n) e = let z : ⊥ = cc in absurd z
+of-variable (Variable v) e = (v, refl)
+of-variable Implies e = let z : ⊥ = cc in absurd z
+of-variable Slash e = let z : ⊥ = cc in absurd z
+of-variable Dot e = let z : ⊥ = cc in absurd z
+of-variable Opening e = let z : ⊥ = cc in absurd z
+of-variable Closing e = let z : ⊥ = cc in absurd z
+of-variable Comma e = let z : ⊥ = cc in absurd z
+of-variable Tilde e = let z : ⊥ = cc in absurd z
+
+pub of-no-name : (k : Scanned_kind) → same_kind name (kind_of k) ≡ false → k ≡ Name → ⊥
+of-no-name k e q = let z = ap (λ k. same_kind name (kind_of k)) q in cc
+
+pub of-no-variable : (k : Scanned_kind) → same_kind variable (kind_of k) ≡ false → (v : ℕ) → k ≡ Variable v → ⊥
+of-no-variable k e v q = let z = ap (λ k. same_kind variable (kind_of k)) q in cc
 
 -- The cell of a name.
-module _ (ds : List Declaration) (b : Kind) (u : Use) where
-  entry-negated : kind_number b ≡ 11 → entry_cell ds (entry_after b u) ≡ 16384 + symbol_number ds u
-  unfolding entry_after entry_cell
-  entry-negated e = rw (ne_eqb (kind_number b) 7 (λ q. omega arith), eq-eqb (kind_number b) 11 e, entry_after)
-
-  entry-plain : (kind_number b ≡ 11 → ⊥) → entry_cell ds (entry_after b u) ≡ symbol_number ds u
-  unfolding entry_after entry_cell
-  entry-plain f = go (ℕ_discrete (kind_number b) 7)
-    where
-      go : Dec (kind_number b ≡ 7) → entry_cell ds (entry_after b u) ≡ symbol_number ds u
-      go (yes e) = rw (eq-eqb (kind_number b) 7 e, entry_after)
-      go (no g) = rw (ne_eqb (kind_number b) 7 g, ne_eqb (kind_number b) 11 f, entry_after)
-
-  symbol-number : (found : ℕ) → number_of u.name 0 ds ≡ found_number found → symbol_number ds u ≡ found - 1
+module _ (ds : List Declaration) (b : Kind) (u : Use) (found : Option ℕ) (e : number_of u.name 0 ds ≡ option_of found) where
+  symbol-number : symbol_number ds u ≡ unwrap_or found 0
   unfolding symbol_number
-  symbol-number zero e = rw (e, symbol_number)
-  symbol-number (suc k) e = rw (e, symbol_number) (omega arith)
-
-  entry_found : (found : ℕ) → number_of u.name 0 ds ≡ found_number found → found_cell (kind_number b) found ≡ entry_cell ds (entry_after b u)
-  entry_found found e = go (ℕ_discrete (kind_number b) 11)
+  symbol-number = go found e
     where
-      go : Dec (kind_number b ≡ 11) → found_cell (kind_number b) found ≡ entry_cell ds (entry_after b u)
-      go (yes q) = rw (eq-eqb (kind_number b) 11 q, found_cell) (ap (16384 +◌) (sym (symbol-number found e)) ∙ sym (entry-negated q))
-      go (no q) = rw (ne_eqb (kind_number b) 11 q, found_cell) (sym (symbol-number found e) ∙ sym (entry-plain q))
+      go : (o : Option ℕ) → number_of u.name 0 ds ≡ option_of o → symbol_number ds u ≡ unwrap_or o 0
+      go None q = rw (q, symbol_number) refl
+      go (Some k) q = rw (q, symbol_number) refl
 
-pub negated-cell : (before found : ℕ) → before ≡ 11 → found_cell before found ≡ 16384 + (found - 1)
-negated-cell before found e = rw (eq-eqb before 11 e, found_cell)
+  entry_found : found_cell b found ≡ entry_cell ds (entry_after b u)
+  unfolding entry_after entry_cell
+  entry_found = by_dot b (λ f. rw f (sym symbol-number)) (λ f. go f (same_kind b tilde) refl)
+    where
+      go : same_kind b dot ≡ false → (x : Bool) → same_kind b tilde ≡ x → found_cell b found ≡ entry_cell ds (entry_after b u)
+      go f true q = rw (f, q, found_cell, entry_after) (ap (16384 +◌) (sym symbol-number))
+      go f false q = rw (f, q, found_cell, entry_after) (sym symbol-number)
 
-pub plain_cell : (before found : ℕ) → (before ≡ 11 → ⊥) → found_cell before found ≡ found - 1
-plain_cell before found f = rw (ne_eqb before 11 f, found_cell)
-
-module _ (text : List ℕ) (before : ℕ) (t : Scanned) where
-  pub cell-variable : t.kind ≡ 4 → CellOf text before t (32768 + t.value)
-  cell-variable e = record { variable = λ q. refl; symbol = λ q. absurd (omega arith) }
-
-  pub cell-none : (t.kind ≡ 4 → ⊥) → (t.kind ≡ 2 → ⊥) → CellOf text before t 0
-  cell-none f g = record { variable = λ q. absurd (f q); symbol = λ q. absurd (g q) }
-
+module _ (t : Table) (before : Kind) (token : Scanned) where
   pub cell-symbol :
-      (froms tos heads befores : List ℕ) (n found r : ℕ) → (t.kind ≡ 4 → ⊥) → Numbered text froms tos heads befores n
-      → found ≡ last_with (is_name (slice t.from t.to text)) (name_at text froms tos) n → r ≡ found_cell before found → CellOf text before t r
-  cell-symbol froms tos heads befores n found r f d e q =
+      token.kind ≡ Name → Declared t → (found : Option ℕ) (r : ℕ) → found ≡ found_at (last_with (is_name (slice_range t.text token.from token.to)) (name_at t) (length t.entries))
+      → r ≡ found_cell before found → CellOf t.text before token (Some r)
+  cell-symbol e D found r f q =
       record {
-        variable = λ p. absurd (f p);
-        symbol = λ p b u k m.
-            q
-            ∙ ap (λ k. found_cell k found) (sym k)
-            ∙ entry_found (text_declarations text) b u found (ap (λ m. number_of m 0 (text_declarations text)) m ∙ d.number t.from t.to ∙ ap found_number (sym e));
+        variable = λ v p. cc;
+        symbol = λ p u m. ap Some (q ∙ entry_found (text_declarations t.text) before u found (ap (λ w. number_of w 0 (text_declarations t.text)) m ∙ find-number t D (slice_range t.text token.from token.to) found f));
+        none = λ f g. absurd (f e);
       }
 
+pub found_fits : (t : Table) → Declared t → length t.entries ≤ 4096 → (bytes : List ℕ) (found : Option ℕ) → found ≡ found_at (last_with (is_name bytes) (name_at t) (length t.entries)) → IfSome found (λ n. n < 4096)
+found_fits t D l bytes None f = tt
+found_fits t D l bytes (Some n) f = omega (arith, find-below t D bytes (Some n) f n refl)
+
 -- A list with a cell in it.
-module _ (deck : List ℕ) (i kind cell : ℕ) where
-  pub put-name : kind ≡ 2 → cell_put deck i kind cell ≡ set deck i cell
-  put-name e = rw (eq-eqb kind 2 e, cell_put)
-
-  pub put-variable : kind ≡ 4 → cell_put deck i kind cell ≡ set deck i cell
-  put-variable e = rw (ne_eqb kind 2 (λ q. omega arith), eq-eqb kind 4 e, cell_put)
-
-  pub put-nothing : (kind ≡ 2 → ⊥) → (kind ≡ 4 → ⊥) → cell_put deck i kind cell ≡ deck
-  put-nothing f g = rw (ne_eqb kind 2 f, ne_eqb kind 4 g, cell_put)
-
-  pub put-length : length (cell_put deck i kind cell) ≡ length deck
-  put-length =
-      by_kind kind (λ e. ap length (put-name e) ∙ length-set deck i cell) (λ e. ap length (put-variable e) ∙ length-set deck i cell)
-      (λ f g. ap length (put-nothing f g))
+pub put-length : (deck : List ℕ) (i : ℕ) (cell : Option ℕ) → length (cell_put deck i cell) ≡ length deck
+put-length deck i None = refl
+put-length deck i (Some cell) = length-set deck i cell
 
 -- A token's cell, and the cells after it.
-module _ (value_of_lem : Entry → ℕ) (deck : List ℕ) (at cells cell : ℕ) (b : Kind) (t : Token) (ts : List Token) where
-  abbrev kind : ℕ
-  kind = kind_number t.kind
-
+module _ (value_of_lem : Entry → ℕ) (deck : List ℕ) (at cells : ℕ) (cell : Option ℕ) (b : Kind) (t : Token) (ts : List Token) where
   pub cell-more :
-      (kind ≡ 2 → cell ≡ value_of_lem (entry_after b (use_of t ts))) → (kind ≡ 4 → cell ≡ value_of_lem (a_variable (value 0 (drop 1 t.bytes))))
-      → sets (cell_put deck (at + cells) kind cell) (at + (cells + takes kind)) (map value_of_lem (entries t.kind ts))
+      (t.kind ≡ name → cell ≡ Some (value_of_lem (entry_after b (use_of t ts)))) → (t.kind ≡ variable → cell ≡ Some (value_of_lem (a_variable (value 0 (drop 1 t.bytes)))))
+      → (same_kind name t.kind ≡ false → same_kind variable t.kind ≡ false → cell ≡ None)
+      → sets (cell_put deck (at + cells) cell) (at + (cells + takes t.kind)) (map value_of_lem (entries t.kind ts))
       ≡ sets deck (at + cells) (map value_of_lem (entries b (t ∷ ts)))
-  cell-more p q =
-      by_kind kind
-      (λ e. rw (put-name deck (at + cells) kind cell e, takes-name kind e, further, entries-name b t ts e, p e))
-      (λ e. rw (put-variable deck (at + cells) kind cell e, takes-variable kind e, further, entries-variable b t ts e, q e))
-      (λ f g. rw (put-nothing deck (at + cells) kind cell f g, takes-other kind f g, same, entries-other b t ts f g))
+  cell-more p q r =
+      by_kind t.kind
+      (λ e. rw (p e, takes-name t.kind e, further, entries-name b t ts e) refl)
+      (λ e. rw (q e, takes-variable t.kind e, further, entries-variable b t ts e) refl)
+      (λ f g. rw (r f g, takes-other t.kind f g, same, entries-other b t ts f g) refl)
     where
       further : at + (cells + 1) ≡ suc (at + cells)
       further = omega arith

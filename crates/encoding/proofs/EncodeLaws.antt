@@ -1,18 +1,36 @@
 -- The parts of the deck's words, one after the other.
-use Prim.Native.Nat.{ℕ, ◌+◌, ◌≤◌}
+use Prim.Native.Nat.{ℕ, ◌+◌, ◌≤◌, ◌<◌}
 use mathlib.Core.Path.{◌≡◌, refl, ap, ap₂, sym, ◌∙◌}
-use mathlib.Core.List.{List, ◌++◌, map, append_assoc}
+use mathlib.Core.List.{List, [], ◌∷◌, ◌++◌, map, append_assoc}
 use native.Mathlib.Omega.{arith}
 use native.Mathlib.Nat.{zero-add}
-use lib.ListN.{length, take, drop, length-append, length-map}
-use lib.Seq.{sets, sets-eq}
+use lib.ListN.{length, take, drop, set, get_or, length-append, length-map}
+use lib.Seq.{sets, sets-eq, take-suc, length-take-le}
+use native.Mathlib.Numerals.{add-one}
+use Rattle.std.proofs.lemmas.List.{get_or-map}
 use Rattle.words.proofs.Sets.{sets-append}
 use Rattle.rules.specs.Decks.{write_symbol, header_words}
 use Rattle.text_rules.specs.TextWords.{entry_cell, starts_from, deck_from}
 use Rattle.text_rules.specs.Text.{text_declarations, text_entries, text_words}
+use Rattle.text.specs.Names.{Table, no_entry, entry_at}
 use Rattle.naming.proofs.UseLaws.{symbol-words}
 use Rattle.encoding.specs.declared.sizes.Sizes.{Sizes}
 use Rattle.encoding.specs.Encoding.{Encodable}
+
+-- The words of the symbols, one after the other.
+pub word_more : (t : Table) (deck : List ℕ) (j : ℕ) → j < length t.entries
+    → set (sets deck 8 (take j (map (λ e. e.value) t.entries))) (8 + j) (entry_at t j).value ≡ sets deck 8 (take (j + 1) (map (λ e. e.value) t.entries))
+word_more t deck j h =
+    let xs : List ℕ = map (λ e. e.value) t.entries in
+    let v = (entry_at t j).value in
+    let m : length xs ≡ length t.entries = length-map t.entries (λ e. e.value) in
+    let n : length (take j xs) ≡ j = length-take-le j xs (omega arith) in
+    let here : get_or xs j 0 ≡ v = get_or-map (λ e. e.value) t.entries j no_entry 0 h in
+    ap (λ k. set (sets deck 8 (take j xs)) (8 + k) v) (sym n)
+    ∙ sets-append (take j xs) (v ∷ []) deck 8
+    ∙ ap (λ w. sets deck 8 (take j xs ++ (w ∷ []))) (sym here)
+    ∙ ap (sets deck 8) (sym (take-suc xs j 0 (omega arith)))
+    ∙ ap (λ k. sets deck 8 (take k xs)) (sym (add-one j))
 
 -- Four runs of stores, each right after the one before.
 four_runs :
@@ -64,25 +82,25 @@ module _ (text : List ℕ) where
       omega
       (arith, ap length parts, length-append header_of (symbols_of text ++ (starts_of ++ cells_of text)), length-append (symbols_of text) (starts_of ++ cells_of text), length-append starts_of (cells_of text), symbols-length, length-map (text_entries text) (entry_cell (text_declarations text)), header-length (length (text_declarations text)) (length starts_of) (length (text_entries text)))
 
-module _
-    (text froms tos heads befores symbols : List ℕ) (n end : ℕ) (s : Sizes) (first : List ℕ) (e : Encodable text froms tos heads befores symbols n end s (length first))
-  where
-    -- The sizes are those of the rules.
-    pub encoded-length : length (text_words text) ≡ 8 + n + s.clauses + s.cells
-    encoded-length = omega (arith, words-length text, e.declared.count, e.sized.clauses, e.sized.cells)
+module _ (t : Table) (end : ℕ) (s : Sizes) (first : List ℕ) (e : Encodable t end s (length first)) where
+  abbrev n : ℕ
+  n = length t.entries
 
-    header-same : header_words n s.clauses s.cells ≡ header_of text
-    header-same = rw (← e.declared.count, e.sized.clauses, e.sized.cells) refl
+  -- The sizes are those of the rules.
+  pub encoded-length : length (text_words t.text) ≡ 8 + n + s.clauses + s.cells
+  encoded-length = omega (arith, words-length t.text, e.declared.count, e.sized.clauses, e.sized.cells)
 
-    pub encoded-all :
-        sets (sets (sets (sets first 0 (header_words n s.clauses s.cells)) 8 (take n symbols)) (8 + n) (starts_of text)) (8 + n + s.clauses) (cells_of text)
-        ≡ text_words text ++ drop (length (text_words text)) first
-    encoded-all =
-        let h : length (header_of text) ≡ 8 = header-length (length (text_declarations text)) (length (starts_of text)) (length (text_entries text)) in
-        let room : length (header_of text ++ (symbols_of text ++ (starts_of text ++ cells_of text))) ≤ length first =
-        omega (arith, ap length (parts text), encoded-length, e.fits) in
-        ap₂ (λ a b. sets (sets (sets (sets first 0 a) 8 b) (8 + n) (starts_of text)) (8 + n + s.clauses) (cells_of text)) header-same
-        (sym (symbol-words text froms tos heads befores symbols n e.declared))
-        ∙ four_runs (header_of text) (symbols_of text) (starts_of text) (cells_of text) first 8 (8 + n) (8 + n + s.clauses) (omega arith)
-        (omega (arith, symbols-length text, e.declared.count)) (omega (arith, e.sized.clauses)) room
-        ∙ ap (λ ws. ws ++ drop (length ws) first) (sym (parts text))
+  header-same : header_words n s.clauses s.cells ≡ header_of t.text
+  header-same = rw (← e.declared.count, e.sized.clauses, e.sized.cells) refl
+
+  pub encoded-all :
+      sets (sets (sets (sets first 0 (header_words n s.clauses s.cells)) 8 (map (λ x. x.value) t.entries)) (8 + n) (starts_of t.text)) (8 + n + s.clauses) (cells_of t.text)
+      ≡ text_words t.text ++ drop (length (text_words t.text)) first
+  encoded-all =
+      let h : length (header_of t.text) ≡ 8 = header-length (length (text_declarations t.text)) (length (starts_of t.text)) (length (text_entries t.text)) in
+      let room : length (header_of t.text ++ (symbols_of t.text ++ (starts_of t.text ++ cells_of t.text))) ≤ length first =
+      omega (arith, ap length (parts t.text), encoded-length, e.fits) in
+      ap₂ (λ a b. sets (sets (sets (sets first 0 a) 8 b) (8 + n) (starts_of t.text)) (8 + n + s.clauses) (cells_of t.text)) header-same (sym (symbol-words t e.declared))
+      ∙ four_runs (header_of t.text) (symbols_of t.text) (starts_of t.text) (cells_of t.text) first 8 (8 + n) (8 + n + s.clauses) (omega arith)
+      (omega (arith, symbols-length t.text, e.declared.count)) (omega (arith, e.sized.clauses)) room
+      ∙ ap (λ ws. ws ++ drop (length ws) first) (sym (parts t.text))

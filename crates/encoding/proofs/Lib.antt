@@ -1,6 +1,5 @@
 pub mod WalkLaws
 pub mod StartLaws
 pub mod CellLaws
-pub mod TableLaws
 pub mod EncodeLaws
 pub mod ClauseLaws

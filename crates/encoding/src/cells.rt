@@ -1,72 +1,47 @@
 // The cells of the clauses.
-ghost use Rattle.std.specs.Prelude.{◌≡◌, ◌-◌, ◌≤◌, ◌<◌, length};
-ghost use Rattle.encoding.specs.Cells.{Numbered, found_cell, CellOf, cell_put};
+ghost use Rattle.std.specs.Prelude.{ℕ, ◌≡◌, ◌≤◌, ◌<◌, IfSome, length};
+ghost use Rattle.text.specs.Kinds.{kind_of};
+ghost use Rattle.naming.specs.Table.{Declared};
+ghost use Rattle.encoding.specs.Cells.{found_cell, CellOf, cell_put};
 
-use text::names;
-use text::tokens::Token;
+use text::names::Names;
+use text::tokens::{Kind, Token};
 
-// The number of a name that is found as one more than that; 0 where it is not found.
-fn number(found: usize) -> u16
-    requires { found ≤ 4096 }
-    ensures { result ≡ found - 1 }
+// The cell of a name after a token of the kind `before`, by the name's number; that is 0 for a name that is not found.
+fn symbol_cell(before: Kind, found: Option<usize>) -> u16
+    requires { IfSome found (λ n. n < 4096) }
+    ensures { result ≡ found_cell (kind_of before) found }
 {
-    if found == 0 {
-        return 0;
+    let symbol = found.unwrap_or(0) as u16;
+    match before {
+        Kind::Tilde => 16384 + symbol,
+        _ => symbol,
     }
-    (found - 1) as u16
 }
 
-// The cell of a name after a token of the kind `before`.
-fn symbol_cell(before: u8, found: usize) -> u16
-    requires { found ≤ 4096 }
-    ensures { result ≡ found_cell before found }
+// The cell of a token, if it takes one.
+pub fn cell_of(names: &Names, before: Kind, t: Token) -> Option<u16>
+    requires token { (t.from ≤ t.to) × (t.to ≤ length names.now.text) × ((v : ℕ) → t.kind ≡ Kind.Variable v → v ≤ 1023) }
+    requires declared { Declared names.now × (length names.now.entries ≤ 4096) }
+    ensures { CellOf names.now.text (kind_of before) t result }
 {
-    let symbol = number(found);
-    if before == 11 {
-        return 16384 + symbol;
+    match t.kind {
+        Kind::Variable(v) => Some(32768 + v),
+        Kind::Name => {
+            let text = names.text();
+            let found = names.find(&text[t.from..t.to]);
+            Some(symbol_cell(before, found))
+        }
+        _ => None,
     }
-    symbol
 }
 
-// The cell of a token that takes one.
-pub fn cell_of(
-    text: &[u8],
-    froms: &[usize],
-    tos: &[usize],
-    heads: &[u16],
-    befores: &[u16],
-    n: usize,
-    before: u8,
-    t: Token,
-) -> u16
-    requires from_le_to { (t.from ≤ t.to) × (t.to ≤ length text.now) × (t.kind ≡ 4 → t.value ≤ 1023) }
-    requires numbered { Numbered text.now froms.now tos.now heads.now befores.now n }
-    ensures { CellOf text.now before t result }
+// A cell at place i, if there is one.
+pub fn put_cell(deck: &mut [u16], i: usize, cell: Option<u16>)
+    requires { IfSome cell (λ c. i < length deck.old) }
+    ensures { deck.new ≡ cell_put deck.old i cell }
 {
-    let kind = t.kind;
-    if kind == 4 {
-        return 32768 + t.value;
-    }
-    if kind != 2 {
-        return 0;
-    }
-    let from = t.from;
-    let to = t.to;
-    let found = names::find(text, froms, tos, heads, befores, n, from, to);
-    symbol_cell(before, found)
-}
-
-// A cell at place i, where a token of that kind takes one.
-pub fn put_cell(deck: &mut [u16], i: usize, kind: u8, cell: u16)
-    requires { (kind ≡ 2 → i < length deck.old) × (kind ≡ 4 → i < length deck.old) }
-    ensures { deck.new ≡ cell_put deck.old i kind cell }
-{
-    if kind == 2 {
+    if let Some(cell) = cell {
         deck[i] = cell;
-        return;
-    }
-    if kind == 4 {
-        deck[i] = cell;
-        return;
     }
 }

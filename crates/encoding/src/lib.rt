@@ -1,62 +1,59 @@
 // The deck's words of a readable text (document 02, U1).
 #![tactic(auto)]
 
-ghost use Rattle.std.specs.Prelude.{◌≡◌, ◌++◌, ◌+◌, ◌≤◌, length, drop};
+ghost use Rattle.std.specs.Prelude.{ℕ, ◌≡◌, ◌++◌, ◌+◌, ◌≤◌, ◌<◌, map, length, drop};
 ghost use Rattle.std.proofs.lemmas.List.Edits.{sets};
 ghost use Rattle.rules.specs.Decks.{header_words};
 ghost use Rattle.text_rules.specs.Text.{text_words};
+ghost use Rattle.text.specs.Names.{entry_at};
 ghost use Rattle.encoding.specs.Encoding.{Encodable};
 
 use sizes::Sizes;
+use text::names::Names;
 
 mod cells;
 mod clauses;
 pub mod sizes;
 mod starts;
 
-fn put_header(deck: &mut [u16], symbols: usize, clauses: usize, cells: usize)
-    requires { (8 ≤ length deck.old) × (8 + symbols + clauses + cells ≤ 16384) }
-    ensures { deck.new ≡ sets deck.old 0 (header_words symbols clauses cells) }
+fn put_header(deck: &mut [u16], symbols: usize, s: Sizes)
+    requires { (8 ≤ length deck.old) × (8 + symbols + s.clauses + s.cells ≤ 16384) }
+    ensures { deck.new ≡ sets deck.old 0 (header_words symbols s.clauses s.cells) }
 {
-    deck[0] = 1;
-    deck[1] = symbols as u16;
-    deck[2] = 8;
-    deck[3] = clauses as u16;
-    deck[4] = (8 + symbols) as u16;
-    deck[5] = cells as u16;
-    deck[6] = (8 + symbols + clauses) as u16;
-    deck[7] = (8 + symbols + clauses + cells) as u16;
+    let starts = 8 + symbols;
+    let cells = starts + s.clauses;
+    let words = cells + s.cells;
+    let header = [
+        1,
+        symbols as u16,
+        8,
+        s.clauses as u16,
+        starts as u16,
+        s.cells as u16,
+        cells as u16,
+        words as u16,
+    ];
+    deck[..8].copy_from_slice(&header);
 }
 
-// The words of a text of those sizes, whose n names are in the table and whose declarations end at `end`.
-pub fn encode(
-    text: &[u8],
-    froms: &[usize],
-    tos: &[usize],
-    heads: &[u16],
-    befores: &[u16],
-    symbols: &[u16],
-    n: usize,
-    end: usize,
-    s: Sizes,
-    deck: &mut [u16],
-)
-    requires { Encodable text.now froms.now tos.now heads.now befores.now symbols.now n end s (length deck.old) }
-    ensures { deck.new ≡ text_words text.now ++ drop (length (text_words text.now)) deck.old }
+// The symbols' words, which were entered with the names.
+fn put_symbols(names: &Names, deck: &mut [u16])
+    requires room { 8 + length names.now.entries ≤ length deck.old }
+    requires words { (j : ℕ) → j < length names.now.entries → (entry_at names.now j).value < 65536 }
+    ensures { deck.new ≡ sets deck.old 8 (map (λ e. e.value) names.now.entries) }
 {
-    let clauses = s.clauses;
-    put_header(deck, n, clauses, s.cells);
-    words::copy(symbols, n, deck, 8);
-    clauses::put_clauses(
-        text,
-        froms,
-        tos,
-        heads,
-        befores,
-        n,
-        end,
-        deck,
-        8 + n,
-        8 + n + clauses,
-    );
+    for j in 0..names.len() {
+        deck[8 + j] = names.get(j).value as u16;
+    }
+}
+
+// The words of a text of those sizes, whose names are in the table and whose declarations end at `end`.
+pub fn encode(names: &Names, end: usize, s: Sizes, deck: &mut [u16])
+    requires { Encodable names.now end s (length deck.old) }
+    ensures { deck.new ≡ text_words names.now.text ++ drop (length (text_words names.now.text)) deck.old }
+{
+    let n = names.len();
+    put_header(deck, n, s);
+    put_symbols(names, deck);
+    clauses::put_clauses(names, end, deck, 8 + n, 8 + n + s.clauses);
 }

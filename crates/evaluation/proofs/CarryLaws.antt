@@ -23,17 +23,13 @@ use Rattle.rules.proofs.Carried.{carry-parts}
 use Rattle.deck.specs.Answers.{number_of, refusal_for}
 use Rattle.deck.specs.declared.Refusal.{Refusal}
 use Rattle.deck.specs.declared.Refusal.TheVariants as why
-use Rattle.deck.specs.declared.Checked as declared
-use Rattle.deck.specs.declared.Checked.TheVariants as answer
+use Rattle.std.specs.Prelude.{Option, Some, None, Result, Ok, Err}
+use Rattle.std.specs.Result.{result_and}
+use Rattle.std.specs.Option.{ok_or}
 use Rattle.stored.specs.Passing.{OpenFound}
-use Rattle.stored.specs.declared.Found.{Found}
-use Rattle.stored.specs.declared.Found.TheVariants.{Until, Nothing}
 use Rattle.report.specs.declared.Report.{Report}
 use Rattle.top_level.specs.Top.{InOrder, Topped}
-use Rattle.evaluation.specs.Results.{check_goals, first_refusal, result_of, slices, OpenAs, CarriedAs, SomeInOrder}
-use Rattle.evaluation.specs.declared.Ran.TheVariants as ran
-use Rattle.evaluation.specs.declared.carry.Carried as code
-use Rattle.evaluation.specs.declared.carry.Carried.TheVariants as kind
+use Rattle.evaluation.specs.Results.{check_goals, result_of, slices, OpenAs, CarriedAs, SomeInOrder}
 use Rattle.deck.proofs.RefusalLaws.{number-accepts, number-refuses}
 use Rattle.evaluation.proofs.RunLaws.{passes, sizes-are, gives-refused, gives-accepted}
 
@@ -56,23 +52,24 @@ in_order_lem S store n k terms held end o e h w inside =
 
 module _ (d : Deck) (store : List ℕ) (n k terms : ℕ) where
   -- Goals are found: what the clauses decide.
-  pub goals-loose : (held end : ℕ) (r : Found) (t : Bool) → r ≡ Until held end → OpenFound d.symbols store n k terms r → t ≡ tight_clauses d.clauses → t ≡ false
-      → OpenAs d.symbols (check_goals d n k terms store) store (kind.Refused why.LooseClause)
-  unfolding check_goals check_tight require obtain and_then
-  goals-loose held end r t e f c z = let o = subst (OpenFound d.symbols store n k terms) e f in let y : tight_clauses d.clauses ≡ false = sym c ∙ z in rw (o.1, y)
+  module _ (p : ℕ × ℕ) (r : Option (ℕ × ℕ)) (t : Bool) (e : r ≡ Some p) (f : OpenFound d.symbols store n k terms r) (c : t ≡ tight_clauses d.clauses) where
+    pub goals-loose : t ≡ false → OpenAs d.symbols (check_goals d n k terms store) store (Err why.LooseClause)
+    unfolding check_goals check_tight require obtain and_then
+    goals-loose z = let o = subst (OpenFound d.symbols store n k terms) e f in let y : tight_clauses d.clauses ≡ false = sym c ∙ z in rw (o.1, y)
 
-  pub open-as : (held end : ℕ) (r : Found) (t : Bool) → r ≡ Until held end → OpenFound d.symbols store n k terms r → t ≡ tight_clauses d.clauses → t ≡ true
-      → OpenAs d.symbols (check_goals d n k terms store) store (kind.Goals held end)
-  unfolding check_goals check_tight require obtain and_then
-  open-as held end r t e f c z =
-      let o = subst (OpenFound d.symbols store n k terms) e f in
-      let y : tight_clauses d.clauses ≡ true = sym c ∙ z in
-      (o.0, rw (o.1, y), in_order_lem d.symbols store n k terms held end o.0 o.1 o.2 o.3 o.4)
+    pub open-as : t ≡ true → OpenAs d.symbols (check_goals d n k terms store) store (Ok p)
+    unfolding check_goals check_tight require obtain and_then
+    open-as z =
+        let o = subst (OpenFound d.symbols store n k terms) e f in
+        let y : tight_clauses d.clauses ≡ true = sym c ∙ z in
+        (o.0, rw (o.1, y), in_order_lem d.symbols store n k terms p.0 p.1 o.0 o.1 o.2 o.3 o.4)
 
-  pub not-open : (r : Found) → r ≡ Nothing → OpenFound d.symbols store n k terms r
-      → OpenAs d.symbols (check_goals d n k terms store) store (kind.Refused why.Goals)
+  -- None are.
+  pub not-open : (r : Option (ℕ × ℕ)) (w : Refusal) → ok_or r why.Goals ≡ Err w → OpenFound d.symbols store n k terms r
+      → OpenAs d.symbols (check_goals d n k terms store) store (Err w)
   unfolding check_goals obtain and_then
-  not-open r e f = let o = subst (OpenFound d.symbols store n k terms) e f in rw o
+  not-open None w e f = let z : why.Goals ≡ w = cc in rw (← z, f)
+  not-open (Some p) w e f = absurd (let z : ◌≡◌ {A = ℕ} 0 1 = cc in omega arith)
 
 -- ALL CHECKS
 goals-then : (c : Checked OpenGoals) (t : Checked (Unit {0})) (f : OpenGoals → Carried)
@@ -88,43 +85,43 @@ both-pass : (deck_words : List ℕ) (n k terms : ℕ) (store : List ℕ) (scratc
 unfolding carry check_goals and_then
 both-pass deck_words n k terms store scratch_size d u o s = rw (o, s) (goals-then (obtain bad_goals (read_open d.symbols n k terms store)) (check_tight d) (λ g. record { deck = d; goals = g }))
 
-module _ (deck_words : List ℕ) (n k terms : ℕ) (store : List ℕ) (scratch_size : ℕ) (words buffers : declared.Checked)
+module _ (deck_words : List ℕ) (n k terms : ℕ) (store : List ℕ) (scratch_size : ℕ) (words buffers : Result (Unit {0}) Refusal)
     (w : number_of words ≡ checked_number (open_deck deck_words)) (b : number_of buffers ≡ checked_number (check_sizes (length store) scratch_size)) where
   abbrev carries : Checked Carried
   carries = carry deck_words n k terms store scratch_size
 
-  pub first-refused : (r : Refusal) → first_refusal words buffers ≡ answer.Refused r → carries ≡ refused (refusal_for r)
+  pub first-refused : (r : Refusal) → result_and words buffers ≡ Err r → carries ≡ refused (refusal_for r)
   unfolding carry and_then
   first-refused = go words buffers w b
     where
-      go : (x y : declared.Checked) → number_of x ≡ checked_number (open_deck deck_words) → number_of y ≡ checked_number (check_sizes (length store) scratch_size)
-          → (r : Refusal) → first_refusal x y ≡ answer.Refused r → carries ≡ refused (refusal_for r)
-      go answer.Accepted y p q r e =
+      go : (x y : Result (Unit {0}) Refusal) → number_of x ≡ checked_number (open_deck deck_words) → number_of y ≡ checked_number (check_sizes (length store) scratch_size)
+          → (r : Refusal) → result_and x y ≡ Err r → carries ≡ refused (refusal_for r)
+      go (Ok u) y p q r e =
           let d = number-accepts (open_deck deck_words) p in
           let s = number-refuses r (check_sizes (length store) scratch_size) (sym (ap number_of e) ∙ q) in
           rw (d.1, s)
-      go (answer.Refused x) y p q r e = let s = number-refuses r (open_deck deck_words) (sym (ap number_of e) ∙ p) in rw s
+      go (Err x) y p q r e = let s = number-refuses r (open_deck deck_words) (sym (ap number_of e) ∙ p) in rw s
 
   pub record Passed : Type 0 where
     pub deck : Deck
     pub opens : open_deck deck_words ≡ accepted deck
     pub goes : carries ≡ and_then (check_goals deck n k terms store) (λ g. accepted (record { deck = deck; goals = g }))
 
-  pub first-passed : first_refusal words buffers ≡ answer.Accepted → Passed
+  pub first-passed : result_and words buffers ≡ (Ok tt) → Passed
   first-passed = go words buffers w b
     where
-      go : (x y : declared.Checked) → number_of x ≡ checked_number (open_deck deck_words) → number_of y ≡ checked_number (check_sizes (length store) scratch_size)
-          → first_refusal x y ≡ answer.Accepted → Passed
-      go answer.Accepted y p q e =
+      go : (x y : Result (Unit {0}) Refusal) → number_of x ≡ checked_number (open_deck deck_words) → number_of y ≡ checked_number (check_sizes (length store) scratch_size)
+          → result_and x y ≡ (Ok tt) → Passed
+      go (Ok u) y p q e =
           let d = number-accepts (open_deck deck_words) p in
           let s = number-accepts (check_sizes (length store) scratch_size) (sym (ap number_of e) ∙ q) in
           record { deck = d.0; opens = d.1; goes = both-pass deck_words n k terms store scratch_size d.0 s.0 d.1 s.1 }
-      go (answer.Refused x) y p q e = absurd (let z : ◌≡◌ {A = ℕ} 0 1 = cc in omega arith)
+      go (Err x) y p q e = absurd (let z : ◌≡◌ {A = ℕ} 0 1 = cc in omega arith)
 
-  pub carried-as : (p : Passed) (r : code.Carried) → OpenAs p.deck.symbols (check_goals p.deck n k terms store) store r → CarriedAs carries store r
+  pub carried-as : (p : Passed) (r : Result (ℕ × ℕ) Refusal) → OpenAs p.deck.symbols (check_goals p.deck n k terms store) store r → CarriedAs carries store r
   unfolding and_then
-  carried-as p (kind.Refused x) h = p.goes ∙ rw h
-  carried-as p (kind.Goals held end) h = (record { deck = p.deck; goals = h.0 }, p.goes ∙ rw h.1, h.2)
+  carried-as p (Err x) h = p.goes ∙ rw h
+  carried-as p (Ok places) h = (record { deck = p.deck; goals = h.0 }, p.goes ∙ rw h.1, h.2)
 
 -- THE RUN: refused, and from the goals that were let through.
 module _ (deck_words : List ℕ) (n k terms : ℕ) (store scratch : List ℕ) where
@@ -132,13 +129,13 @@ module _ (deck_words : List ℕ) (n k terms : ℕ) (store scratch : List ℕ) wh
   lets = carry deck_words n k terms store (length scratch)
 
   pub ran-on-refused : (budget : ℕ) (answers : List ℕ) (w : Refusal) → lets ≡ refused (refusal_for w)
-      → RanOn deck_words n k terms budget (slices answers store scratch) (result_of (ran.Refused w)) (slices answers store scratch)
+      → RanOn deck_words n k terms budget (slices answers store scratch) (result_of (Err w)) (slices answers store scratch)
   unfolding carry_from carry_on and_then
   ran-on-refused budget answers w e =
       let c : carry_from deck_words n k terms budget (slices answers store scratch) ≡ refused (refusal_for w) = rw e in
       gives-refused (carry_from deck_words n k terms budget (slices answers store scratch)) (slices answers store scratch) w c
 
-  module _ (held end : ℕ) (h : CarriedAs lets store (kind.Goals held end)) where
+  module _ (p : ℕ × ℕ) (h : CarriedAs lets store (Ok p)) where
     pub carried-sizes : (8192 ≤ length scratch) × (length store ≤ 65535)
     unfolding carry
     carried-sizes =
@@ -150,12 +147,12 @@ module _ (deck_words : List ℕ) (n k terms : ℕ) (store scratch : List ℕ) wh
     carried-opens : open_deck deck_words ≡ accepted h.0.deck
     carried-opens = (carry-parts deck_words n k terms store (length scratch) h.0 h.1).0
 
-    pub carried-in-order : SomeInOrder deck_words store held end
+    pub carried-in-order : SomeInOrder deck_words store p.0 p.1
     carried-in-order = record { deck = h.0.deck; goals = h.0.goals.pending; parked_goals = h.0.goals.parked; opens = carried-opens; in_order = h.2 }
 
     pub ran-on-accepted : (budget : ℕ) (answers answers' store' scratch' : List ℕ) (r : Report) → length store' ≡ length store → length scratch' ≡ length scratch
-        → ((d : Deck) (gs : List Goal) (ms : List Marked) → open_deck deck_words ≡ accepted d → InOrder d.symbols store held end gs ms → Topped d answers store gs ms budget answers' store' r)
-        → RanOn deck_words n k terms budget (slices answers store scratch) (result_of (ran.Done r)) (slices answers' store' scratch')
+        → ((d : Deck) (gs : List Goal) (ms : List Marked) → open_deck deck_words ≡ accepted d → InOrder d.symbols store p.0 p.1 gs ms → Topped d answers store gs ms budget answers' store' r)
+        → RanOn deck_words n k terms budget (slices answers store scratch) (result_of (Ok r)) (slices answers' store' scratch')
     unfolding carry_from carry_on and_then
     ran-on-accepted budget answers answers' store' scratch' r same rest topped =
         let x = h.0 in

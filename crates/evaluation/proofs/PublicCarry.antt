@@ -21,7 +21,7 @@ use Rattle.rules.proofs.Carried.{CarriesOn, CarriedOn, goes_on, demand-on, deman
 use Rattle.report.specs.Reports.{report_of}
 use Rattle.report.specs.declared.Report.{Report}
 use Rattle.evaluation.specs.Results.{slices}
-use Rattle.evaluation.specs.declared.Ran.TheVariants.{Done}
+use Rattle.std.specs.Prelude.{Ok}
 use Rattle.evaluation.specs.contracts.run as fresh
 use Rattle.evaluation.proofs.run.Reads as fresh-reads
 use Rattle.evaluation.specs.contracts.carry.carry_on.{signature, ended}
@@ -35,7 +35,7 @@ lent_on κs entry = slices entry.1.1.1.1.1.0.now entry.1.1.1.1.1.1.0.now entry.1
 abbrev pub left_on : (κs : Lfts 4) → AtExit ended κs → Slices
 left_on κs exit = slices exit.1.1.1.1.1.0.now exit.1.1.1.1.1.1.0.now exit.1.1.1.1.1.1.1.0.now
 
-module _ (κs : Lfts 4) (entry : ArgsD signature κs) (exit : AtExit ended κs) (r : Report) (post : Post κs entry (Done r) exit) where
+module _ (κs : Lfts 4) (entry : ArgsD signature κs) (exit : AtExit ended κs) (r : Report) (post : Post κs entry (Ok r) exit) where
   -- Such a statement of this run.
   abbrev pub SaidHere : (Deck → List Marked → List Marked → Type 1) → Type 1
   SaidHere Statement = SaidOn Statement entry.0.now entry.1.0 entry.1.1.0 entry.1.1.1.0 (lent_on κs entry) (report_of r) (left_on κs exit)
@@ -83,7 +83,7 @@ module _ (κs : Lfts 4) (entry : ArgsD signature κs) (exit : AtExit ended κs) 
       (open-list S entry.1.0 entry.1.1.0 entry.1.1.1.0 (lent_on κs entry).store d.before (open-reads S entry.1.0 entry.1.1.0 entry.1.1.1.0 (lent_on κs entry).store d.before d.carries))
 
 -- AFTER A FRESH RUN
-module _ (κs : Lfts 5) (entry : ArgsD fresh.signature κs) (exit : AtExit fresh.ended κs) (r : Report) (post : fresh-reads.Post κs entry (Done r) exit) where
+module _ (κs : Lfts 5) (entry : ArgsD fresh.signature κs) (exit : AtExit fresh.ended κs) (r : Report) (post : fresh-reads.Post κs entry (Ok r) exit) where
   -- The first one is let carry on, with as many answer terms as the query has variables.
   pub public-fresh-carries : (deck : Deck) × (query : List Literal) × (open_deck entry.0.now ≡ accepted deck) × (read_query deck entry.1.0.now ≡ accepted query)
       × CarriesOn entry.0.now (length (query_variables query)) (report_of r) (left_in κs exit)

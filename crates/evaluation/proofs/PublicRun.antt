@@ -18,7 +18,7 @@ use Rattle.rules.proofs.Demand3.{ran-spends, demand-3, all_listed, nothing_left,
 use Rattle.report.specs.Reports.{report_of}
 use Rattle.report.specs.declared.Report.{Report}
 use Rattle.evaluation.specs.Results.{slices}
-use Rattle.evaluation.specs.declared.Ran.TheVariants.{Done}
+use Rattle.std.specs.Prelude.{Ok}
 use Rattle.evaluation.specs.contracts.run.{signature, ended}
 use Rattle.evaluation.proofs.run.Reads.{Post}
 
@@ -26,7 +26,7 @@ use Rattle.evaluation.proofs.run.Reads.{Post}
 abbrev pub left_in : (κs : Lfts 5) → AtExit ended κs → Slices
 left_in κs exit = slices exit.1.1.1.0.now exit.1.1.1.1.0.now exit.1.1.1.1.1.0.now
 
-module _ (κs : Lfts 5) (entry : ArgsD signature κs) (exit : AtExit ended κs) (r : Report) (post : Post κs entry (Done r) exit) where
+module _ (κs : Lfts 5) (entry : ArgsD signature κs) (exit : AtExit ended κs) (r : Report) (post : Post κs entry (Ok r) exit) where
   -- No more steps than their cost, and a cost of at most the budget; so no more steps than the budget.
   pub public-spends : (r.steps ≤ r.cost) × (r.cost ≤ entry.1.1.0)
   public-spends =

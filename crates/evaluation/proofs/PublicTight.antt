@@ -22,12 +22,12 @@ use Rattle.rules.proofs.TightRuns.{ran-never-flounders, ran-unfloundered, ran-cl
 use Rattle.report.specs.Reports.{report_of}
 use Rattle.report.specs.declared.Report.{Report}
 use Rattle.evaluation.specs.Results.{slices}
-use Rattle.evaluation.specs.declared.Ran.TheVariants.{Done}
+use Rattle.std.specs.Prelude.{Ok}
 use Rattle.evaluation.specs.contracts.run.{signature, ended}
 use Rattle.evaluation.proofs.run.Reads.{Post}
 use Rattle.evaluation.proofs.PublicRun.{left_in}
 
-module _ (κs : Lfts 5) (entry : ArgsD signature κs) (exit : AtExit ended κs) (r : Report) (post : Post κs entry (Done r) exit) where
+module _ (κs : Lfts 5) (entry : ArgsD signature κs) (exit : AtExit ended κs) (r : Report) (post : Post κs entry (Ok r) exit) where
   -- The words of the slices that were lent.
   abbrev lent : Slices
   lent = slices entry.1.1.1.0.now entry.1.1.1.1.0.now entry.1.1.1.1.1.0.now

@@ -1,10 +1,10 @@
 -- The public run put together: which refusal it returns, and an accepted run from what level 0 left.
-use Prim.Native.Nat.{ℕ, zero, suc, ◌-◌, ◌≤◌, ◌<◌, ◌+◌}
+use Prim.Native.Nat.{ℕ, ◌-◌, ◌≤◌, ◌<◌}
 use mathlib.Core.Path.{◌≡◌, refl, sym, ◌∙◌, ap, subst}
 use mathlib.Core.Bool.{Bool, true, false, ◌&&◌, and-eq-true_iff}
 use mathlib.Core.List.{List, [], ◌∷◌, ◌++◌}
 use native.Mathlib.Omega.{arith}
-use lib.ListN.{length, get_or, drop, replicate, length-replicate, get_or-replicate}
+use lib.ListN.{length, drop}
 use lib.Dec.{leb}
 use borrow.Author.Tests.{le-leb, lt-leb, leb-true}
 use Rattle.rules.specs.Syntax.{Literal, Deck}
@@ -19,22 +19,18 @@ use Rattle.rules.proofs.GoalLaws.{goals-length, unmarked-words}
 use Rattle.rules.proofs.DeckLaws.{steps-open, query-reads}
 use Rattle.rules.proofs.Demand3.{Accepted, run-accepted}
 use Rattle.deck.specs.declared.Refusal as declared
-use Rattle.deck.specs.declared.Checked as declared-checks
-use Rattle.deck.specs.declared.Checked.TheVariants as answer
+use Rattle.std.specs.Prelude.{Result, Ok, Err}
+use Rattle.std.specs.Result.{result_and}
+use Rattle.std.specs.Ordering.{nat_cmp, is_le}
+use Rattle.std.proofs.lemmas.Bool.Decides.{nat_tests}
 use Rattle.deck.specs.Answers.{number_of, refusal_for, check_words}
 use Rattle.deck.proofs.RefusalLaws.{number-positive, refused-number, number-accepts, number-refuses}
 use Rattle.report.specs.Reports.{stop_of as stop_of'}
 use Rattle.report.specs.declared.Report.{Report}
-use Rattle.matching.specs.Bindings as bindings
-use Rattle.matching.specs.Tables.{bind_of, marks_of}
-use Rattle.matching.proofs.TableLaws.{part-inside, part_at}
-use Rattle.resolvents.specs.Deriving.{Rows}
-use Rattle.clauses.specs.Clauses.{Blank}
 use Rattle.top_level.specs.Top.{Queries, opening, Topped}
 use Rattle.rules.specs.Goals.{Marked}
 use Rattle.rules.specs.Syntax.{Goal}
-use Rattle.evaluation.specs.Results.{check_sized, first_refusal, result_of, slices}
-use Rattle.evaluation.specs.declared.Ran.TheVariants as kind
+use Rattle.evaluation.specs.Results.{check_sized, result_of, slices}
 
 -- CHECKS ONE AFTER THE OTHER
 module _ {A B : Type 0} where
@@ -49,13 +45,13 @@ required n true u e = refl
 required n false u e = absurd (let z : ◌≡◌ {A = ℕ} 0 1 = cc in omega arith)
 
 -- Of two checks, the number of the first that refuses.
-then-number : {A B : Type 0} (c : Checked A) (next : Checked B) (first second : declared-checks.Checked) → number_of first ≡ checked_number c → number_of second ≡ checked_number next
-    → number_of (first_refusal first second) ≡ checked_number (and_then c (λ _. next))
+then-number : {A B : Type 0} (c : Checked A) (next : Checked B) (first second : Result (Unit {0}) declared.Refusal) → number_of first ≡ checked_number c → number_of second ≡ checked_number next
+    → number_of (result_and first second) ≡ checked_number (and_then c (λ _. next))
 unfolding and_then
-then-number (refused n) next answer.Accepted second e f = absurd (omega (arith, number-positive n))
-then-number (refused n) next (answer.Refused why) second e f = e
-then-number (accepted a) next answer.Accepted second e f = f
-then-number (accepted a) next (answer.Refused why) second e f = absurd (refused-number why e)
+then-number (refused n) next (Ok u) second e f = absurd (omega (arith, number-positive n))
+then-number (refused n) next (Err why) second e f = e
+then-number (accepted a) next (Ok u) second e f = f
+then-number (accepted a) next (Err why) second e f = absurd (refused-number why e)
 
 -- A check gives its number, whatever it lets through.
 last-number : {A B : Type 0} (c : Checked A) (b : B) → checked_number c ≡ checked_number (and_then c (λ _. accepted b))
@@ -63,24 +59,26 @@ unfolding and_then
 last-number (refused n) b = refl
 last-number (accepted a) b = refl
 
+-- The test of a range of numbers.
+pub is_le-leb : (a b : ℕ) → is_le (nat_cmp a b) ≡ leb a b
+is_le-leb a b = grind (arith, nat_tests)
+
 -- The sizes that are refused, and those that are let through.
 module _ (store_size scratch_size : ℕ) where
-  pub store-small : store_size < 1024 → 8 ≡ checked_number (check_sizes store_size scratch_size)
+  abbrev within_store : Bool
+  within_store = leb 1024 store_size && leb store_size 65535
+
+  pub store-refused : within_store ≡ false → 8 ≡ checked_number (check_sizes store_size scratch_size)
   unfolding check_sizes and_then require
-  store-small h = rw (lt-leb 1024 store_size h)
+  store-refused e = rw e
 
-  pub store-large : 65535 < store_size → 8 ≡ checked_number (check_sizes store_size scratch_size)
+  pub scratch-small : within_store ≡ true → scratch_size < 8192 → 9 ≡ checked_number (check_sizes store_size scratch_size)
   unfolding check_sizes and_then require
-  store-large h = rw (le-leb 1024 store_size (omega arith), lt-leb store_size 65535 h)
+  scratch-small e h = rw (e, lt-leb 8192 scratch_size h)
 
-  module _ (least : 1024 ≤ store_size) (most : store_size ≤ 65535) where
-    pub scratch-small : scratch_size < 8192 → 9 ≡ checked_number (check_sizes store_size scratch_size)
-    unfolding check_sizes and_then require
-    scratch-small h = rw (le-leb 1024 store_size least, le-leb store_size 65535 most, lt-leb 8192 scratch_size h)
-
-    pub sizes-fit : 8192 ≤ scratch_size → 0 ≡ checked_number (check_sizes store_size scratch_size)
-    unfolding check_sizes and_then require
-    sizes-fit h = rw (le-leb 1024 store_size least, le-leb store_size 65535 most, le-leb 8192 scratch_size h)
+  pub sizes-fit : within_store ≡ true → 8192 ≤ scratch_size → 0 ≡ checked_number (check_sizes store_size scratch_size)
+  unfolding check_sizes and_then require
+  sizes-fit e h = rw (e, le-leb 8192 scratch_size h)
 
   -- What sizes that are let through are.
   pub sizes-are : (u : Unit {0}) → check_sizes store_size scratch_size ≡ accepted u → (1024 ≤ store_size) × (store_size ≤ 65535) × (8192 ≤ scratch_size)
@@ -91,28 +89,28 @@ module _ (store_size scratch_size : ℕ) where
       (leb-true 1024 store_size b.0, leb-true store_size 65535 b.1, leb-true 8192 scratch_size (required bad_scratch (leb 8192 scratch_size) u s.2))
 
 module _ (deck_words query_words : List ℕ) (total answer_room store_size scratch_size : ℕ) where
-  pub sized-number : (words buffers : declared-checks.Checked) → number_of words ≡ checked_number (check_words deck_words query_words)
-      → number_of buffers ≡ checked_number (check_sizes store_size scratch_size) → number_of (first_refusal words buffers) ≡ checked_number (check_sized deck_words query_words store_size scratch_size)
+  pub sized-number : (words buffers : Result (Unit {0}) declared.Refusal) → number_of words ≡ checked_number (check_words deck_words query_words)
+      → number_of buffers ≡ checked_number (check_sizes store_size scratch_size) → number_of (result_and words buffers) ≡ checked_number (check_sized deck_words query_words store_size scratch_size)
   unfolding check_sized
   sized-number = then-number (check_words deck_words query_words) (check_sizes store_size scratch_size)
 
   -- What refusals 1 to 9 refuse, the run refuses.
-  pub run-refused : (why : declared.Refusal) → number_of (answer.Refused why) ≡ checked_number (check_sized deck_words query_words store_size scratch_size)
-      → number_of (answer.Refused why) ≡ checked_number (run deck_words query_words total answer_room store_size scratch_size)
+  pub run-refused : (why : declared.Refusal) → number_of (Err why) ≡ checked_number (check_sized deck_words query_words store_size scratch_size)
+      → number_of (Err why) ≡ checked_number (run deck_words query_words total answer_room store_size scratch_size)
   unfolding run check_sized check_words and_then
   run-refused why = deck (open_deck deck_words)
     where
-      size : (s : Checked (Unit {0})) (next : Unit {0} → Checked Outcome) → number_of (answer.Refused why) ≡ checked_number s → number_of (answer.Refused why) ≡ checked_number (and_then s next)
+      size : (s : Checked (Unit {0})) (next : Unit {0} → Checked Outcome) → number_of (Err why) ≡ checked_number s → number_of (Err why) ≡ checked_number (and_then s next)
       size (refused n) next e = e
       size (accepted u) next e = absurd (refused-number why e)
 
-      query : (q : Checked (List Literal)) (next : List Literal → Unit {0} → Checked Outcome) → number_of (answer.Refused why) ≡ checked_number (and_then q (λ _. check_sizes store_size scratch_size))
-          → number_of (answer.Refused why) ≡ checked_number (and_then q (λ l. and_then (check_sizes store_size scratch_size) (next l)))
+      query : (q : Checked (List Literal)) (next : List Literal → Unit {0} → Checked Outcome) → number_of (Err why) ≡ checked_number (and_then q (λ _. check_sizes store_size scratch_size))
+          → number_of (Err why) ≡ checked_number (and_then q (λ l. and_then (check_sizes store_size scratch_size) (next l)))
       query (refused n) next e = e
       query (accepted l) next e = size (check_sizes store_size scratch_size) (next l) e
 
-      deck : (o : Checked Deck) → number_of (answer.Refused why) ≡ checked_number (and_then (and_then o (λ d. read_query d query_words)) (λ _. check_sizes store_size scratch_size))
-          → number_of (answer.Refused why) ≡ checked_number (and_then o (λ d. and_then (read_query d query_words) (λ q. and_then (check_sizes store_size scratch_size)
+      deck : (o : Checked Deck) → number_of (Err why) ≡ checked_number (and_then (and_then o (λ d. read_query d query_words)) (λ _. check_sizes store_size scratch_size))
+          → number_of (Err why) ≡ checked_number (and_then o (λ d. and_then (read_query d query_words) (λ q. and_then (check_sizes store_size scratch_size)
           (λ _. and_then (check_tight_query d q) (λ _. accepted (evaluate d answer_room store_size (first_goal q ∷ []) [] total))))))
       deck (refused n) e = e
       deck (accepted d) e = query (read_query d query_words) _ e
@@ -176,35 +174,13 @@ accepted-query {deck_words} {query_words} a =
     let q = query-reads a.deck query_words a.query a.asks in
     record { symbols = (steps-open deck_words a.deck a.opens).symbols; well_formed = q.1; are = q.0 }
 
--- The arrays of a run at its start.
-zeros : (n w : ℕ) → ◌≡◌ {A = ℕ} (get_or (replicate n 0) w 0) 0
-zeros zero w = refl
-zeros (suc n) zero = refl
-zeros (suc n) (suc w) = zeros n w
-
-pub blank-table : (n : ℕ) → n ≡ 3840 → (length (replicate {A = ℕ} n 0) ≡ 3840) × ((w : ℕ) → ◌≡◌ {A = ℕ} (get_or (replicate n 0) w 0) 0)
-blank-table n e = (length-replicate {A = ℕ} n 0 ∙ e, zeros n)
-
-pub blank-rows : (n : ℕ) (table : List ℕ) → n ≡ 3584 → length table ≡ 3840 → bindings.Blank (bind_of table) (marks_of table) → Rows table (replicate n 65535)
-blank-rows n table e l b =
-    let few = length-replicate {A = ℕ} n 65535 in
-    record {
-      blank = b;
-      unnamed = λ v h. part_at 1024 1280 (replicate n 65535) h ∙ get_or-replicate {A = ℕ} n (1024 + v) 65535 0 (omega (arith, (part-inside 1024 1280 (replicate n 65535) h).1));
-      table_length = l;
-      draft_length = few ∙ e;
-    }
-
-pub blank-index : (n : ℕ) → n ≡ 12288 → Blank (replicate n 65535)
-blank-index n e = record { size = length-replicate {A = ℕ} n 65535 ∙ e; none = λ p h. get_or-replicate {A = ℕ} n p 65535 0 (omega arith) }
-
 -- A RUN, refused and accepted: fresh, or carrying on.
-pub gives-refused : (c : Checked Outcome) (s : Slices) (why : declared.Refusal) → c ≡ refused (refusal_for why) → Gives c s (result_of (kind.Refused why)) s
+pub gives-refused : (c : Checked Outcome) (s : Slices) (why : declared.Refusal) → c ≡ refused (refusal_for why) → Gives c s (result_of (Err why)) s
 unfolding returned Leaves
 gives-refused c s why r = record { returns = sym (ap returned r); leaves = subst (λ (x : Checked Outcome). Leaves x s s) (sym r) refl }
 
 pub ran-refused : (deck_words query_words : List ℕ) (total : ℕ) (s : Slices) (why : declared.Refusal)
-    → number_of (answer.Refused why) ≡ checked_number (run_on deck_words query_words total s) → Ran deck_words query_words total s (result_of (kind.Refused why)) s
+    → number_of (Err why) ≡ checked_number (run_on deck_words query_words total s) → Ran deck_words query_words total s (result_of (Err why)) s
 ran-refused deck_words query_words total s why e = gives-refused (run_on deck_words query_words total s) s why (number-refuses why (run_on deck_words query_words total s) e)
 
 -- Level 0's run asks of the store at its start only how long it is.
@@ -225,7 +201,7 @@ topped-as {d} {answers} {gs = gs} {ms} {total} e t =
 module _ (d : Deck) (gs : List Goal) (ms : List Marked) (total : ℕ) (answers store scratch answers' store' scratch' : List ℕ) (r : Report) where
   pub gives-accepted : (c : Checked Outcome) → c ≡ accepted (evaluate d (length answers) (length store) gs ms total)
       → length store' ≡ length store → length scratch' ≡ length scratch → Topped d answers store gs ms total answers' store' r
-      → Gives c (slices answers store scratch) (result_of (kind.Done r)) (slices answers' store' scratch')
+      → Gives c (slices answers store scratch) (result_of (Ok r)) (slices answers' store' scratch')
   unfolding evaluate outcome stop_of returned report Leaves answers_after store_start
   gives-accepted c e same rest t =
       let l = t.level in

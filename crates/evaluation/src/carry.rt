@@ -9,19 +9,12 @@ ghost use Rattle.clauses.specs.Clauses.{Opens};
 ghost use Rattle.top_level.specs.Top.{InOrder, Topped};
 ghost use Rattle.evaluation.specs.Results.{check_goals, result_of, slices, OpenAs, CarriedAs, SomeInOrder};
 
-use crate::{Ran, first_refusal, from_goals, sizes};
-use deck::{Checked, Refusal};
+use crate::{from_goals, sizes};
+use deck::Refusal;
 use report::Report;
-use stored::Found;
+use top_level::Start;
 
-// What the checks come to: a refusal, or the places after the pending goals and after the parked ones.
-#[derive(Drop)]
-pub enum Carried {
-    Refused(Refusal),
-    Goals(usize, usize),
-}
-
-// Refusals 1 to 5 of the deck, 8 and 9 of the sizes, then 12 of the goals and 13 of the deck.
+// The places after the pending goals and after the parked ones, once the checks let them through: refusals 1 to 5 of the deck, 8 and 9 of the sizes, then 12 of the goals and 13 of the deck.
 fn checks(
     deck: &[u16],
     pending: u64,
@@ -29,31 +22,29 @@ fn checks(
     terms: u64,
     store: &[u16],
     scratch: usize,
-) -> Carried
+) -> Result<(usize, usize), Refusal>
     ensures { CarriedAs (carry deck.now pending parked terms store.now scratch) store.now result }
 {
-    let words = deck::open(deck);
-    let buffers = sizes(store.len(), scratch);
-    match first_refusal(words, buffers) {
-        Checked::Refused(why) => Carried::Refused(why),
-        Checked::Accepted => open_goals(deck, pending, parked, terms, store),
-    }
+    deck::open(deck).and(sizes(store.len(), scratch))?;
+    open_goals(deck, pending, parked, terms, store)
 }
 
 // Refusal 12, then 13, or the goals.
-fn open_goals(deck: &[u16], pending: u64, parked: u64, terms: u64, store: &[u16]) -> Carried
+fn open_goals(
+    deck: &[u16],
+    pending: u64,
+    parked: u64,
+    terms: u64,
+    store: &[u16],
+) -> Result<(usize, usize), Refusal>
     requires { Opens deck.now }
     ensures { (d : Deck) → open_deck deck.now ≡ accepted d → OpenAs d.symbols (check_goals d pending parked terms store.now) store.now result }
 {
-    match stored::deck_goals(deck, store, pending, parked, terms) {
-        Found::Until(held, end) => {
-            if !loose::clauses_tight(deck) {
-                return Carried::Refused(Refusal::LooseClause);
-            }
-            Carried::Goals(held, end)
-        }
-        Found::Nothing => Carried::Refused(Refusal::Goals),
+    let goals = stored::deck_goals(deck, store, pending, parked, terms).ok_or(Refusal::Goals)?;
+    if !loose::clauses_tight(deck) {
+        return Err(Refusal::LooseClause);
     }
+    Ok(goals)
 }
 
 // THE PUBLIC CALL: a run that carries on from the goals that the store begins with, `pending` of them pending and then `parked` of them parked, each of
@@ -67,31 +58,33 @@ pub fn carry_on(
     answers: &mut [u16],
     store: &mut [u16],
     scratch: &mut [u16],
-) -> Ran
+) -> Result<Report, Refusal>
     ensures { RanOn deck.now pending parked terms budget (slices answers.old store.old scratch.old) (result_of result) (slices answers.new store.new scratch.new) }
 {
-    match checks(deck, pending, parked, terms, store, scratch.len()) {
-        Carried::Refused(why) => Ran::Refused(why),
-        Carried::Goals(held, end) => Ran::Done(resumed(
-            deck, held, end, budget, answers, store, scratch,
-        )),
-    }
+    let goals = checks(deck, pending, parked, terms, store, scratch.len())?;
+    Ok(resumed(deck, goals, budget, answers, store, scratch))
 }
 
-// The run from goals in order at the start of the store.
+// The run from goals in order at the start of the store: the pending ones up to the first place, and the parked ones up to the second.
 fn resumed(
     deck: &[u16],
-    held: usize,
-    end: usize,
+    goals: (usize, usize),
     budget: u32,
     answers: &mut [u16],
     store: &mut [u16],
     scratch: &mut [u16],
 ) -> Report
-    requires some_in_order { SomeInOrder deck.now store.old held end }
-    requires in_bounds { (8192 ≤ length scratch.old) × (length store.old ≤ 65535) }
-    ensures { (d : Deck) (gs : List Goal) (ms : List Marked) → open_deck deck.now ≡ accepted d → InOrder d.symbols store.old held end gs ms → Topped d answers.old store.old gs ms budget answers.new store.new result }
+    requires in_order { SomeInOrder deck.now store.old goals.0 goals.1 }
+    requires short_store { length store.old ≤ 65535 }
+    requires room { 8192 ≤ length scratch.old }
+    ensures { (d : Deck) (gs : List Goal) (ms : List Marked) → open_deck deck.now ≡ accepted d → InOrder d.symbols store.old goals.0 goals.1 gs ms → Topped d answers.old store.old gs ms budget answers.new store.new result }
 {
+    let (held, end) = goals;
     top_level::resume(store, held, end);
-    from_goals(deck, end - held, held, budget, answers, store, scratch)
+    let start = Start {
+        parked: end - held,
+        held,
+        budget,
+    };
+    from_goals(deck, start, answers, store, scratch)
 }

@@ -5,7 +5,7 @@ use mathlib.Core.List.{List, [], ◌∷◌, ◌++◌, reverse, reverse-cons}
 use native.Mathlib.Omega.{arith}
 use native.Mathlib.Numerals.{add-one}
 use lib.ListN.{length, get_or, take, drop, set, length-append, length-drop, length-reverse, take-append-drop}
-use lib.Seq.{sets, length-take-le, take-take, take-set-lt, set_at, set-set, drop-cons, drop-drop}
+use lib.Seq.{sets, length-take-le, take-set-lt, set_at, set-set, drop-cons, drop-drop}
 use Rattle.words.proofs.StoreLaws.{sets-append, down, mirror-length, removed}
 
 first_more : (l xs : List ℕ) (at k x : ℕ) → at + length xs ≡ k → set (sets l at (reverse xs)) k x ≡ sets l at (reverse (x ∷ xs))
@@ -27,20 +27,26 @@ two-more l xs base held n a w e k =
     let q : base + length (a ∷ xs) ≡ held - 1 = omega arith in
     rw (b, first_more l xs base (held - 2) a m, first_more l (a ∷ xs) base (held - 1) w q)
 
--- The words of cells from s up to e, of which the first is changed to x, and two more in front.
+-- The words, of which the first is changed to x, and two more in front.
 pub changed-and-two-more :
-    (l cells : List ℕ) (base end n s x a w : ℕ) → base + n + 2 ≡ end → 0 < n → s + n ≤ length cells
-    → set (set (set (sets l (end - 2 - n) (reverse (take n (take n (drop s cells))))) (end - 3) x) (end - 2) a) (end - 1) w
-    ≡ sets l base (reverse (w ∷ a ∷ x ∷ take (n - 1) (drop (s + 1) cells)))
-changed-and-two-more l cells base end n s x a w e z k =
-    let xs = take (n - 1) (drop (s + 1) cells) in
-    let m : length xs ≡ n - 1 = length-take-le (n - 1) (drop (s + 1) cells) (omega (arith, length-drop (s + 1) cells)) in
-    let q : n ≡ suc (n - 1) = omega arith in
-    let first : take n (drop s cells) ≡ get_or cells s 0 ∷ xs =
+    (l words : List ℕ) (base end n x a w : ℕ) → base + n + 2 ≡ end → length words ≡ n → 0 < n
+    → set (set (set (sets l base (reverse words)) (end - 3) x) (end - 2) a) (end - 1) w
+    ≡ sets l base (reverse (w ∷ a ∷ x ∷ drop 1 words))
+changed-and-two-more l [] base end n x a w e k z = absurd (omega arith)
+changed-and-two-more l (y ∷ xs) base end n x a w e k z =
+    let b : base + length xs ≡ end - 3 = omega arith in
+    let q : base ≡ end - 2 - n = omega arith in
+    rw (first-changed l xs base (end - 3) x y b, q) (two-more l (x ∷ xs) (end - 2 - n) end n a w (omega arith) (omega arith))
+
+-- A literal's words, those of cells from s up to e: their number, the first of them, and the others.
+pub literal-words :
+    (cells : List ℕ) (s e : ℕ) → s < e → e ≤ length cells
+    → (length (take (e - s) (drop s cells)) ≡ e - s) × (get_or (take (e - s) (drop s cells)) 0 0 ≡ get_or cells s 0) × (drop 1 (take (e - s) (drop s cells)) ≡ take (e - s - 1) (drop (s + 1) cells))
+literal-words cells s e h k =
+    let q : e - s ≡ suc (e - s - 1) = omega arith in
+    let first : take (e - s) (drop s cells) ≡ get_or cells s 0 ∷ take (e - s - 1) (drop (s + 1) cells) =
     ap (λ (k : ℕ). take k (drop s cells)) q ∙ rw (add-one, drop-cons cells s 0 (omega arith)) in
-    let b : end - 2 - n + length xs ≡ end - 3 = omega arith in
-    rw (take-take n n (drop s cells) (omega arith), first, first-changed l xs (end - 2 - n) (end - 3) x (get_or cells s 0) b)
-    (two-more l (x ∷ xs) base end n a w e (omega arith))
+    (length-take-le (e - s) (drop s cells) (omega (arith, length-drop s cells)), ap (λ (r : List ℕ). get_or r 0 0) first, ap (drop 1) first)
 
 -- Of the mirrored words y, xs, gs, zs the words gs are taken out, and the first word is changed.
 out_of :

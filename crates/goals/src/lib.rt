@@ -1,11 +1,11 @@
 // Goals in the store, as mirror images at the end of the words held.
 #![tactic(auto)]
 
-ghost use Rattle.std.specs.Prelude.{◌≡◌, ℕ, ◌+◌, ◌-◌, ◌≤◌, ◌<◌, List, ◌∷◌, ◌++◌, reverse, length, take, drop, get_or};
+ghost use Rattle.std.specs.Prelude.{◌≡◌, ◌+◌, ◌-◌, ◌≤◌, ◌<◌, ◌∷◌, ◌++◌, reverse, length, take, drop, get_or};
 ghost use Rattle.std.proofs.lemmas.List.Edits.{sets};
 
 // Why a goal is parked: floundered, undecided, oversized, deep.
-#[derive(Drop)]
+#[derive(Clone, Copy, Debug, PartialEq, Eq)]
 pub enum Mark {
     Floundered,
     Undecided,
@@ -13,14 +13,33 @@ pub enum Mark {
     Deep,
 }
 
-// Writes the goal whose cells are the first of `cells`, `answers` of them its answer terms, from base up to held.
-pub fn restore(store: &mut [u16], base: usize, held: usize, cells: &[u16], answers: usize)
-    requires { (base + 2 ≤ held) × (held ≤ length store.old) × (held - base ≤ 1024) × (answers ≤ 1024) × (held - base - 2 ≤ length cells.now) }
-    ensures { store.new ≡ sets store.old base (reverse ((held - base) ∷ answers ∷ take (held - base - 2) cells.now)) }
+// What a mark adds to a goal's word 0.
+impl From<Mark> for u16 {
+    ghost use Rattle.std.specs.Prelude.{◌≡◌, ◌*◌};
+    ghost use Rattle.rules.specs.Goals.{mark_number};
+    ghost use Rattle.goals.specs.Store.{mark_of};
+
+    ghost from_gives = { λ mark word. word ≡ 4096 * mark_number (mark_of mark) };
+
+    fn from(mark: Mark) -> u16 {
+        match mark {
+            Mark::Floundered => 4096,
+            Mark::Undecided => 8192,
+            Mark::Oversized => 12288,
+            Mark::Deep => 16384,
+        }
+    }
+}
+
+// Writes the goal of these cells, `answers` of them its answer terms, so that it ends where the words held end.
+pub fn restore(store: &mut [u16], held: usize, cells: &[u16], answers: usize)
+    requires { (length cells.now + 2 ≤ held) × (held ≤ length store.old) × (length cells.now ≤ 1022) × (answers ≤ 1024) }
+    ensures { store.new ≡ sets store.old (held - 2 - length cells.now) (reverse ((length cells.now + 2) ∷ answers ∷ cells.now)) }
 {
-    words::put_mirrored(cells, held - base - 2, store, held - 2);
+    let n = cells.len();
+    words::mirror(cells, &mut store[held - 2 - n..held - 2]);
     store[held - 2] = answers as u16;
-    store[held - 1] = (held - base) as u16;
+    store[held - 1] = (n + 2) as u16;
 }
 
 // Takes the words from s up to e of the cells of the goal at the end of the words held out of it.
@@ -29,22 +48,22 @@ pub fn remove(store: &mut [u16], held: usize, s: usize, e: usize)
     ensures { take (held - (e - s)) store.new ≡ reverse ((get_or store.old (held - 1) 0 - (e - s)) ∷ (take (s + 1) (drop 1 (reverse (take held store.old))) ++ drop (e + 2) (reverse (take held store.old)))) }
 {
     let d = e - s;
-    let length = store[held - 1] as usize;
-    words::move_down(store, held - 2 - s, held, d);
+    let length = usize::from(store[held - 1]);
+    store.copy_within(held - 2 - s..held, held - 2 - s - d);
     store[held - d - 1] = (length - d) as u16;
 }
 
-// Writes the new level's goal behind the words held: the negative literal at the cells from s up to e made positive.
-pub fn ask(store: &mut [u16], held: usize, cells: &[u16], s: usize, e: usize) -> usize
-    requires { (held + (e - s) + 2 ≤ length store.old) × (s < e) × (e ≤ length cells.now) × (16384 ≤ get_or cells.now s 0) × (e - s ≤ 1022) }
-    ensures value { result ≡ e - s + 2 }
-    ensures store_after { store.new ≡ sets store.old held (reverse ((e - s + 2) ∷ 0 ∷ (get_or cells.now s 0 - 16384) ∷ take (e - s - 1) (drop (s + 1) cells.now))) }
+// Writes the new level's goal behind the words held: the negative literal made positive. The result is its number of words.
+pub fn ask(store: &mut [u16], held: usize, literal: &[u16]) -> usize
+    requires { (held + length literal.now + 2 ≤ length store.old) × (0 < length literal.now) × (16384 ≤ get_or literal.now 0 0) × (length literal.now ≤ 1022) }
+    ensures value { result ≡ length literal.now + 2 }
+    ensures store_after { store.new ≡ sets store.old held (reverse ((length literal.now + 2) ∷ 0 ∷ (get_or literal.now 0 0 - 16384) ∷ drop 1 literal.now)) }
 {
-    let d = e - s;
-    let end = held + d + 2;
-    words::put_mirrored(&cells[s..e], d, store, end - 2);
-    store[end - 3] = cells[s] - 16384;
+    let n = literal.len();
+    let end = held + n + 2;
+    words::mirror(literal, &mut store[held..held + n]);
+    store[end - 3] = literal[0] - 16384;
     store[end - 2] = 0;
-    store[end - 1] = (d + 2) as u16;
-    d + 2
+    store[end - 1] = (n + 2) as u16;
+    n + 2
 }

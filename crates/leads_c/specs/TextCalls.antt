@@ -1,9 +1,9 @@
 -- What the calls that read and write a deck as text promise: the public calls' contracts, and the numbers that they leave behind the pointers.
-use Rattle.std.specs.Prelude.{ℕ, ◌≡◌, List}
+use Rattle.std.specs.Prelude.{ℕ, ◌≡◌, List, Result}
 use Rattle.std.proofs.Math.Option.{Option, none, some}
 use Rattle.rules.specs.Refusals.{refusal_number, Checked, refused, accepted}
 use Rattle.text_rules.specs.Text.{bad_place}
-use Rattle.reading.specs.declared.Read.{Read}
+use Rattle.reading.specs.declared.ReadError.{ReadError}
 use Rattle.reading.specs.Reads.{result_of, DidRead}
 use Rattle.writing.specs.Writes.{Wrote}
 
@@ -18,7 +18,7 @@ place_or before none = before
 place_or before (some place) = place
 
 pub record ReadCalled (text deck : List ℕ) (words place r : ℕ) (deck_after : List ℕ) (words_after place_after : ℕ) : Type 0 where
-  pub result : Read
+  pub result : Result ℕ ReadError
   pub read : DidRead text deck result deck_after
   pub tells : TellsNumber (result_of result) words r words_after
   pub tells_place : place_after ≡ place_or place (bad_place text)

@@ -9,11 +9,9 @@ ghost use Rattle.leads_c.specs.Calls.{Called, CalledOn, Tells, numbers};
 ghost use Rattle.leads_c.specs.TextCalls.{ReadCalled, WriteCalled};
 ghost use Rattle.leads_c.specs.DrillCalls.{DrillCalled};
 
-use deck::{Checked, Refusal};
-use drill::Drilled;
-use evaluation::Ran;
-use reading::Read;
-use writing::Written;
+use deck::Refusal;
+use reading::ReadError;
+use report::Report;
 
 #[unsafe(no_mangle)]
 pub extern "C" fn leads_open(deck: &[u16]) -> u32
@@ -83,9 +81,9 @@ pub extern "C" fn leads_continue(
     )
 }
 
-// The number of a refusal, with the numbers as they were; or 0, with the report's.
+// The number of a refusal, with the numbers as they were; or 0, with the report's. C passes a pointer for each, so they are no struct.
 fn told(
-    ran: Ran,
+    ran: Result<Report, Refusal>,
     stop: &mut u32,
     steps: &mut u32,
     cost: &mut u32,
@@ -96,10 +94,8 @@ fn told(
     ensures { Tells (result_of ran) (numbers stop.old steps.old cost.old answer_count.old pending.old parked.old) result (numbers stop.new steps.new cost.new answer_count.new pending.new parked.new) }
 {
     match ran {
-        Ran::Refused(why) => deck::number(Checked::Refused(why)),
-        Ran::Done(report) => {
-            let why = report.stop;
-            *stop = report::stop_number(why);
+        Ok(report) => {
+            *stop = u32::from(report.stop);
             *steps = report.steps;
             *cost = report.cost;
             *answer_count = report.answers;
@@ -107,6 +103,7 @@ fn told(
             *parked = report.parked;
             0
         }
+        Err(why) => u32::from(why),
     }
 }
 
@@ -120,15 +117,15 @@ pub extern "C" fn leads_read_text(
     ensures { ReadCalled text.now deck.old deck_words.old place.old result deck.new deck_words.new place.new }
 {
     match reading::read_text(text, deck) {
-        Read::Words(n) => {
+        Ok(n) => {
             *deck_words = n;
             0
         }
-        Read::Unreadable(at) => {
+        Err(ReadError::Unreadable(at)) => {
             *place = at;
-            deck::number(Checked::Refused(Refusal::Text))
+            u32::from(Refusal::Text)
         }
-        Read::Refused(why) => deck::number(Checked::Refused(why)),
+        Err(ReadError::Refused(why)) => u32::from(why),
     }
 }
 
@@ -137,11 +134,11 @@ pub extern "C" fn leads_write_text(deck: &[u16], text: &mut [u8], text_bytes: &m
     ensures { WriteCalled deck.now text.old text_bytes.old result text.new text_bytes.new }
 {
     match writing::write_text(deck, text) {
-        Written::Refused(why) => deck::number(Checked::Refused(why)),
-        Written::Bytes(n) => {
+        Ok(n) => {
             *text_bytes = n;
             0
         }
+        Err(why) => u32::from(why),
     }
 }
 
@@ -156,10 +153,10 @@ pub extern "C" fn leads_drill(
     ensures { DrillCalled deck.now n after.now list.old count.old result list.new count.new }
 {
     match drill::drill(deck, n, after, list) {
-        Drilled::Refused(why) => deck::number(Checked::Refused(why)),
-        Drilled::Written(terms) => {
+        Ok(terms) => {
             *count = terms as u64;
             0
         }
+        Err(why) => u32::from(why),
     }
 }

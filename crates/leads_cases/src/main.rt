@@ -5,9 +5,7 @@
 // Numbers are two bytes, low byte first.
 #![tactic(auto)]
 
-ghost use Rattle.bytes_io.specs.Prefix.{IsPrefixLen};
-
-use bytes_io::{count, read_full};
+use case_file::{input, number, title};
 use std::io::Read;
 use std::{fs, io};
 
@@ -19,56 +17,22 @@ fn main(rt: HostRuntime) -> io::Result<()> {
     }
 }
 
-fn cases(rt: &impl Print, file: &mut impl Read) -> io::Result<()> {
-    for _ in 0..number(file) {
+fn cases<F: Read>(rt: &impl Print, file: &mut F) -> io::Result<()> {
+    for _ in 0..number::<F, 2>(file) {
         case(rt, file)?;
     }
     Ok(())
 }
 
-fn case(rt: &impl Print, file: &mut impl Read) -> io::Result<()> {
-    let mut deck = [0u8; 32772];
-    let mut query = [0u8; 1004];
+fn case<F: Read>(rt: &impl Print, file: &mut F) -> io::Result<()> {
+    let mut deck_room = [0u8; 32772];
+    let mut query_room = [0u8; 1004];
     let mut out = [0u8; 65605];
-    title(rt, file)?;
-    let present = number(file) != 0;
-    let d = input(file, &mut deck);
-    let q = input(file, &mut query);
-    let n = program::printed(present, &deck[..d], &query[..q], &mut out);
+    title::<F, 2>(rt, file)?;
+    let present = number::<F, 2>(file) != 0;
+    let deck = input::<F, 2>(file, &mut deck_room);
+    let query = input::<F, 2>(file, &mut query_room);
+    let file = if present { Some(deck) } else { None };
+    let n = program::printed(file, query, &mut out);
     rt.write_all(&out[..n])
-}
-
-fn title(rt: &impl Print, file: &mut impl Read) -> io::Result<()> {
-    let mut line = [0u8; 100];
-    let n = given(file, &mut line);
-    rt.write_all(&line[..n])
-}
-
-// Reads an input to the start of `bytes`, which are 0. Returns its length.
-fn input(file: &mut impl Read, bytes: &mut [u8]) -> usize
-    ensures { IsPrefixLen result bytes.new }
-{
-    let length = number(file) as usize;
-    given(file, bytes);
-    count(length, bytes)
-}
-
-// Reads a length and so many bytes. Returns the length.
-fn given(file: &mut impl Read, bytes: &mut [u8]) -> usize
-    ensures { IsPrefixLen result bytes.new }
-{
-    let length = number(file) as usize;
-    let n = count(length, bytes);
-    read_full(file, &mut bytes[..n]);
-    count(length, bytes)
-}
-
-fn number(file: &mut impl Read) -> u16 {
-    let mut bytes = [0u8; 2];
-    read_full(file, &mut bytes);
-    word(bytes[0], bytes[1])
-}
-
-fn word(low: u8, high: u8) -> u16 {
-    low as u16 + 256 * (high as u16)
 }

@@ -23,7 +23,7 @@ use Rattle.resolvents.specs.declared.select.Selected.TheVariants as selected
 use Rattle.goals.specs.Store.{Holding, atom_goal}
 use Rattle.derivation.specs.Derives.{Deriving}
 use Rattle.levels.specs.Levels.{Asking, Negates, Negating}
-use Rattle.goals.proofs.HeldLaws.{still-held, cells-length, held-words, first-length, first-answers, first-cells}
+use Rattle.goals.proofs.HeldLaws.{still-held, cells-length, first-length, first-answers, first-cells}
 use Rattle.levels.proofs.NegativeLaws.{atom-size, cells_before, before-length, literal-length, cells-around}
 
 -- THE SELECTED LITERAL, and where it stands.
@@ -106,14 +106,13 @@ module _ (deck_words : List ℕ) {store row : List ℕ} {held w a : ℕ} (c : Co
     wide = c.answers ∙ first-answers h;
   }
 
-  pub to-derive : (s e : ℕ) (k : Positive g s e) → Deriving deck_words store row (held - w) held (w - 2) a s e d g gs k.before k.predicate k.terms k.after
+  pub to-derive : (s e : ℕ) (k : Positive g s e) → Deriving deck_words store row held (w - 2) a s e d g gs k.before k.predicate k.terms k.after
   to-derive s e k =
       let chosen : Selected g.literals (positive k.before k.predicate k.terms k.after) = rw k.selects at (select-selected g.literals) in
       record {
         opens = o;
         holding = h;
-        begins = omega (arith, size, held-words h);
-        sized = omega (arith, size, held-words h, cells-length g);
+        sized = omega (arith, size, cells-length g);
         calls = record {
           inside = omega (arith, c.long);
           goal = goal-row (symbol_words deck_words) (w - 2) refl refl;

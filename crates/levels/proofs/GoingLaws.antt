@@ -18,12 +18,14 @@ use Rattle.report.specs.declared.Stop.{Stop}
 use Rattle.report.specs.declared.Stop.TheVariants.{Finished, Budget, Answers, Store}
 use Rattle.goals.specs.Store.{Holding, SomeFirst, mark_of}
 use Rattle.levels.specs.Levels.{account_of, paid_one, Later, Stands, Turned, verdict_for, finished_by, Replied}
+use Rattle.std.specs.Prelude.{Result, Ok, Err}
 use Rattle.goals.specs.declared.Mark as declared
 use Rattle.levels.specs.declared.Account.{Account}
 use Rattle.levels.specs.declared.Turn.{Turn}
-use Rattle.levels.specs.declared.Turn.TheVariants.{Empty, Park, More, Stopped}
+use Rattle.levels.specs.declared.Turn.TheVariants.{Empty, Park, More}
+use Rattle.levels.specs.declared.Halt.{Halt}
 use Rattle.levels.specs.declared.Verdict.{Verdict}
-use Rattle.levels.specs.declared.Verdict.TheVariants.{Succeeds, Interrupted}
+use Rattle.levels.specs.declared.Verdict.TheVariants.{Succeeds}
 use Rattle.goals.proofs.HeldLaws.{first-length, first-room, rest-held, still-held, FirstOf, first_of, none-held}
 use Rattle.levels.proofs.StepLaws.{answered}
 use Rattle.levels.proofs.TurnLaws.{bare-paid}
@@ -70,7 +72,7 @@ cut-flag clauses Store outer left g gs l p s = refl
 module _ {d : Deck} {below room : ℕ} {gs : List Goal} {a₀ : Account} {store : List ℕ} {held : ℕ} {a : Account} {parked : Bool}
     (r : Goes d below room gs a₀ store held a parked) where
   -- NOTHING IS HELD: the level is finished.
-  pub goes-finished : held ≤ 0 → (v : Verdict) → verdict_for v ≡ finished_by parked → Replied d below room gs a₀ (record { verdict = v; account = a })
+  pub goes-finished : held ≤ 0 → (v : Verdict) → verdict_for v ≡ finished_by parked → Replied d below room gs a₀ (Ok (record { verdict = v; account = a }))
   unfolding reply_of
   goes-finished z v e =
       record {
@@ -94,7 +96,7 @@ module _ {d : Deck} {below room : ℕ} {gs : List Goal} {a₀ : Account} {store 
     some_first deck_words o = record { deck = d; first = first.first; goals = first.rest; opens = o; holding = first-held }
 
     -- Nothing is left of the budget.
-    pub goes_spent : a.left ≡ 0 → Replied d below room gs a₀ (record { verdict = Interrupted Budget; account = a })
+    pub goes_spent : a.left ≡ 0 → Replied d below room gs a₀ (Err (record { stop = Budget; account = a }))
     unfolding reply_of verdict_of
     goes_spent z =
         record {
@@ -105,7 +107,7 @@ module _ {d : Deck} {below room : ℕ} {gs : List Goal} {a₀ : Account} {store 
         }
 
     -- What a step came to, whatever the first goal.
-    abbrev Took : List ℕ → Turn → Type 0
+    abbrev Took : List ℕ → Result Turn Halt → Type 0
     Took store' t = (g : Goal) (hs : List Goal) → Holding d.symbols store held (g ∷ hs) → Turned d below store held a g hs store' t
 
     stands : (store_size outer : ℕ) → outer + room ≡ store_size
@@ -113,7 +115,7 @@ module _ {d : Deck} {below room : ℕ} {gs : List Goal} {a₀ : Account} {store 
     stands store_size outer f = record { pending = first.same; room = omega (arith, r.size) }
 
     -- It had no literals.
-    pub goes-succeeds : (store' : List ℕ) → 0 < a.left → Took store' Empty → Replied d below room gs a₀ (record { verdict = Succeeds; account = paid_one a })
+    pub goes-succeeds : (store' : List ℕ) → 0 < a.left → Took store' (Ok Empty) → Replied d below room gs a₀ (Ok (record { verdict = Succeeds; account = paid_one a }))
     unfolding reply_of verdict_of
     goes-succeeds store' pays t =
         let bare = (t first.first first.rest first-held).0 in
@@ -127,23 +129,25 @@ module _ {d : Deck} {below room : ℕ} {gs : List Goal} {a₀ : Account} {store 
         }
 
     -- The run stops.
-    pub goes-interrupted : (store' : List ℕ) (stop : Stop) (b : Account) → Took store' (Stopped stop b) → Replied d below room gs a₀ (record { verdict = Interrupted stop; account = b })
+    pub goes-interrupted : (store' : List ℕ) (halt : Halt) → Took store' (Err halt) → Replied d below room gs a₀ (Err halt)
     unfolding reply_of
-    goes-interrupted store' stop b t =
+    goes-interrupted store' halt t =
         let u = t first.first first.rest first-held in
+        let stop = stop_of halt.stop in
+        let b = account_of halt.account in
         record {
-          later = then-later a₀ a b r.later u.0;
+          later = then-later a₀ a halt.account r.later u.0;
           decides = λ answer_room store_size outer f.
               let l = level_of r.pending r.aside in
               let e = u.2 answer_room store_size (deeper outer) l (stands store_size outer f) in
-              let s = runs-says (level-runs d.clauses answer_room store_size below (deeper outer) l (account_of a) (ended (stopped (stop_of stop)) l (account_of b)) e) in
+              let s = runs-says (level-runs d.clauses answer_room store_size below (deeper outer) l (account_of a) (ended (stopped stop) l b) e) in
               r.same answer_room store_size outer f ∙ ap reply_of e
-              ∙ ap (λ x. rules.reply x (account_of b)) (cut-flag d.clauses stop outer b.left first.first first.rest l first.same s);
+              ∙ ap (λ x. rules.reply x b) (cut-flag d.clauses halt.stop outer b.left first.first first.rest l first.same s);
         }
 
     -- The goal is parked.
     pub goes-parked : (store' : List ℕ) (m : declared.Mark) (b : Account) (size : ℕ) → length store' ≡ length store → size ≡ get_or store' (held - 1) 0
-        → Took store' (Park m b) → Goes d below room gs a₀ store' (held - size) b true
+        → Took store' (Ok (Park m b)) → Goes d below room gs a₀ store' (held - size) b true
     unfolding with_parked
     goes-parked store' m b size l q t =
         let u = t first.first first.rest first-held in
@@ -161,7 +165,7 @@ module _ {d : Deck} {below room : ℕ} {gs : List Goal} {a₀ : Account} {store 
         }
 
     -- It goes on with other goals.
-    pub goes_on_lem : (store' : List ℕ) (h : ℕ) (b : Account) → length store' ≡ length store → Took store' (More h b) → Goes d below room gs a₀ store' h b parked
+    pub goes_on_lem : (store' : List ℕ) (h : ℕ) (b : Account) → length store' ≡ length store → Took store' (Ok (More h b)) → Goes d below room gs a₀ store' h b parked
     unfolding with_pending
     goes_on_lem store' h b l t =
         let u = t first.first first.rest first-held in
@@ -178,12 +182,12 @@ module _ {d : Deck} {below room : ℕ} {gs : List Goal} {a₀ : Account} {store 
         }
 
     -- The parked goal's words are among those held; each turn costs something.
-    pub parked-room : (store' : List ℕ) (m : declared.Mark) (b : Account) → length store' ≡ length store → Took store' (Park m b)
+    pub parked-room : (store' : List ℕ) (m : declared.Mark) (b : Account) → length store' ≡ length store → Took store' (Ok (Park m b))
         → (held ≤ length store') × (get_or store' (held - 1) 0 ≤ held) × (b.left < a.left) × Later a b
     parked-room store' m b l t =
         let u = t first.first first.rest first-held in
         let room = first-room (still-held first-held l u.2) in
         (room.1, room.3, u.0, u.1)
 
-    pub on-later : (store' : List ℕ) (h : ℕ) (b : Account) → Took store' (More h b) → (b.left < a.left) × Later a b
+    pub on-later : (store' : List ℕ) (h : ℕ) (b : Account) → Took store' (Ok (More h b)) → (b.left < a.left) × Later a b
     on-later store' h b t = let u = t first.first first.rest first-held in (u.0, u.1)

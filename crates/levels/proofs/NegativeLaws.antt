@@ -4,8 +4,7 @@ use mathlib.Core.Path.{◌≡◌, sym, ◌∙◌, ap, ap₂}
 use mathlib.Core.List.{List, [], ◌∷◌, ◌++◌, reverse, reverse-reverse, append_assoc, append-nil}
 use native.Mathlib.Omega.{arith}
 use lib.ListN.{length, get_or, take, drop, length-append, length-reverse, length-drop}
-use native.Mathlib.Numerals.{add-one}
-use lib.Seq.{sets, sets-eq, drop-cons, take_at, drop_at, take-take, length-take-le, length-sets}
+use lib.Seq.{sets, sets-eq, take_at, drop_at, take-take, length-take-le, length-sets}
 use borrow.Rule.Slice.PartMut.{mid_of}
 use Rattle.rules.specs.Terms.{Terms, sizes}
 use Rattle.rules.specs.Syntax.{Symbol, Literal, pos, neg, Goal, arguments}
@@ -144,32 +143,29 @@ pub atom-size : (p : ℕ) (ts : Terms) → goal_words (atom_goal p ts) ≡ sizes
 atom-size p ts = goal-words (atom_goal p ts) ∙ omega arith
 
 module _ {cells : List ℕ} {s e : ℕ} {S : List Symbol} {p : ℕ} {ts : Terms} (a : Asking cells s e S p ts) where
-  -- As many cells as the literal has, its predicate, and its terms.
-  asked-size : e - s ≡ sizes ts + 1
-  asked-size =
-      sym (length-take-le (e - s) (drop s cells) (omega (arith, length-drop s cells, a.order, a.inside)))
-      ∙ ap length a.cells
-      ∙ omega (arith, terms-length ts [])
+  -- Its cells: as many as its terms have and one, first its predicate, then its terms.
+  abbrev literal : List ℕ
+  literal = take (e - s) (drop s cells)
 
-  asked-parts : (get_or cells s 0 ≡ 16384 + p) × (take (e - s - 1) (drop (s + 1) cells) ≡ write_terms ts [])
-  asked-parts =
-      let n : e - s ≡ suc (e - s - 1) = omega (arith, asked-size) in
-      let q : get_or cells s 0 ∷ take (e - s - 1) (drop (suc s) cells) ≡ (16384 + p) ∷ write_terms ts []
-      = rw (n, drop-cons cells s 0 (omega (arith, asked-size, a.order, a.inside))) at a.cells in
-      (cc, rw add-one (cc))
+  asked-length : length literal ≡ sizes ts + 1
+  asked-length = ap length a.cells ∙ omega (arith, terms-length ts [])
 
-  asked-predicate : 16384 ≤ get_or cells s 0
-  asked-predicate = omega (arith, asked-parts.0)
+  asked-first : get_or literal 0 0 ≡ 16384 + p
+  asked-first = ap (λ (r : List ℕ). get_or r 0 0) a.cells
 
-  pub asked-inside : (s < e) × (e ≤ length cells) × (16384 ≤ get_or cells s 0) × (e - s ≤ 1022)
-  asked-inside = (omega (arith, asked-size), a.inside, asked-predicate, omega (arith, asked-size, atom-size p ts, a.short))
+  pub asked-size : e - s ≡ length literal
+  asked-size = sym (length-take-le (e - s) (drop s cells) (omega (arith, length-drop s cells, a.order, a.inside)))
+
+  pub asked-inside : (s ≤ e) × (e ≤ length cells) × (0 < length literal) × (16384 ≤ get_or literal 0 0) × (length literal ≤ 1022)
+  asked-inside = (a.order, a.inside, omega (arith, asked-length), omega (arith, asked-first), omega (arith, asked-length, atom-size p ts, a.short))
 
   -- The words that are written for it.
-  asked-words : (e - s + 2) ∷ 0 ∷ (get_or cells s 0 - 16384) ∷ take (e - s - 1) (drop (s + 1) cells) ≡ write_goals (unmarked (atom_goal p ts ∷ []))
+  asked-words : (length literal + 2) ∷ 0 ∷ (get_or literal 0 0 - 16384) ∷ drop 1 literal ≡ write_goals (unmarked (atom_goal p ts ∷ []))
   asked-words =
-      let w : e - s + 2 ≡ sizes ts + 3 = omega (arith, asked-size) in
-      let q : get_or cells s 0 - 16384 ≡ p = omega (arith, asked-parts.0) in
-      rw (w, q, asked-parts.1) (sym (atom-words p ts))
+      let w : length literal + 2 ≡ sizes ts + 3 = omega (arith, asked-length) in
+      let q : get_or literal 0 0 - 16384 ≡ p = omega (arith, asked-first) in
+      let r : drop 1 literal ≡ write_terms ts [] = ap (drop 1) a.cells in
+      rw (w, q, r) (sym (atom-words p ts))
 
   asked-wf : WfGoal S (atom_goal p ts)
   unfolding numbered
@@ -180,13 +176,13 @@ module _ {cells : List ℕ} {s e : ℕ} {S : List Symbol} {p : ℕ} {ts : Terms}
     short = a.short;
   }
 
-  pub asked-held : (store store' : List ℕ) (held : ℕ) → held + (e - s) + 2 ≤ length store
-      → store' ≡ sets store held (reverse ((e - s + 2) ∷ 0 ∷ (get_or cells s 0 - 16384) ∷ take (e - s - 1) (drop (s + 1) cells)))
-      → Holding S (mid_of held (length store' - held) store') (e - s + 2) (atom_goal p ts ∷ [])
+  pub asked-held : (store store' : List ℕ) (held : ℕ) → held + length literal + 2 ≤ length store
+      → store' ≡ sets store held (reverse ((length literal + 2) ∷ 0 ∷ (get_or literal 0 0 - 16384) ∷ drop 1 literal))
+      → Holding S (mid_of held (length store' - held) store') (length literal + 2) (atom_goal p ts ∷ [])
   asked-held store store' held fits q =
       let ws = write_goals (unmarked (atom_goal p ts ∷ [])) in
       let vs = reverse ws in
-      let n : length vs ≡ e - s + 2 = length-reverse ws ∙ goals-length (unmarked (atom_goal p ts ∷ [])) ∙ omega (arith, atom-size p ts, asked-size) in
+      let n : length vs ≡ length literal + 2 = length-reverse ws ∙ goals-length (unmarked (atom_goal p ts ∷ [])) ∙ omega (arith, atom-size p ts, asked-length) in
       let t : store' ≡ sets store held vs = q ∙ ap (λ (r : List ℕ). sets store held (reverse r)) asked-words in
       let d : drop held store' ≡ vs ++ drop (held + length vs) store =
       ap (drop held) (t ∙ sets-eq vs store held (omega arith) ∙ append_assoc (take held store) vs (drop (held + length vs) store))
@@ -196,14 +192,14 @@ module _ {cells : List ℕ} {s e : ℕ} {S : List Symbol} {p : ℕ} {ts : Terms}
         inside = omega arith;
         well_formed = (asked-wf, tt);
         words =
-            take-take (e - s + 2) (length store' - held) (drop held store') (omega (arith, ap length t, length-sets store held vs))
-            ∙ ap (take (e - s + 2)) d
-            ∙ take_at vs (drop (held + length vs) store) (e - s + 2) n;
+            take-take (length literal + 2) (length store' - held) (drop held store') (omega (arith, ap length t, length-sets store held vs))
+            ∙ ap (take (length literal + 2)) d
+            ∙ take_at vs (drop (held + length vs) store) (length literal + 2) n;
       }
 
   pub asked-kept : (store store' : List ℕ) (held : ℕ)
-      → store' ≡ sets store held (reverse ((e - s + 2) ∷ 0 ∷ (get_or cells s 0 - 16384) ∷ take (e - s - 1) (drop (s + 1) cells)))
+      → store' ≡ sets store held (reverse ((length literal + 2) ∷ 0 ∷ (get_or literal 0 0 - 16384) ∷ drop 1 literal))
       → take held store' ≡ take held store
   asked-kept store store' held q =
       ap (take held) q
-      ∙ take-sets-before (reverse ((e - s + 2) ∷ 0 ∷ (get_or cells s 0 - 16384) ∷ take (e - s - 1) (drop (s + 1) cells))) store held held (omega arith)
+      ∙ take-sets-before (reverse ((length literal + 2) ∷ 0 ∷ (get_or literal 0 0 - 16384) ∷ drop 1 literal)) store held held (omega arith)

@@ -1,5 +1,5 @@
 -- What a step, a decision and a level say of the rules' evaluation.
-use Rattle.std.specs.Prelude.{ℕ, ◌+◌, ◌-◌, ◌≤◌, ◌<◌, ◌≡◌, Bool, true, false, List, [], ◌∷◌, length, take, drop}
+use Rattle.std.specs.Prelude.{ℕ, ◌+◌, ◌-◌, ◌≤◌, ◌<◌, ◌≡◌, Bool, true, false, List, [], ◌∷◌, length, take, drop, Option, Some, None, Result, Ok, Err}
 use Rattle.rules.specs.Terms.{Terms, vars_terms}
 use Rattle.rules.specs.Syntax.{Symbol, Literal, neg, Clause, Deck, Goal}
 use Rattle.rules.specs.Cells.{write_literal}
@@ -10,25 +10,28 @@ use Rattle.rules.specs.Resolution.{negative, select}
 use Rattle.rules.specs.WellFormed.{WfLiteral}
 use Rattle.rules.specs.Evaluation as rules
 use Rattle.report.specs.Reports.{stop_of}
-use Rattle.report.specs.declared.Stop.TheVariants.{Budget, Store}
+use Rattle.report.specs.declared.Stop.{Stop}
 use Rattle.resolvents.specs.Selecting.{Spans}
 use Rattle.goals.specs.Store.{Holding, atom_goal, mark_of}
 use Rattle.goals.specs.declared.Mark.TheVariants as marks
 use Rattle.derivation.specs.declared.Derived.{Derived}
-use Rattle.derivation.specs.declared.Derived.TheVariants.{Words, Oversized, NoRoom, Unpaid}
 use Rattle.levels.specs.declared.Account.{Account}
 use Rattle.levels.specs.declared.Turn.{Turn}
-use Rattle.levels.specs.declared.Turn.TheVariants.{Empty, Park, More, Stopped}
+use Rattle.levels.specs.declared.Turn.TheVariants.{Empty, Park, More}
+use Rattle.levels.specs.declared.Halt.{Halt}
 use Rattle.levels.specs.declared.Verdict.{Verdict}
-use Rattle.levels.specs.declared.Verdict.TheVariants.{Succeeds, Fails, Unsettled, Interrupted}
+use Rattle.levels.specs.declared.Verdict.TheVariants.{Succeeds, Fails, Unsettled}
 use Rattle.levels.specs.declared.Reply.{Reply}
 
 abbrev pub account_of : Account → rules.Account
 account_of a = record { left = a.left; steps = a.steps }
 
--- The account after a step that costs 1.
+-- The account after a step that leaves `left`, and after one that costs 1.
+abbrev pub paid : Account → ℕ → Account
+paid a left = record { left = left; steps = a.steps + 1 }
+
 abbrev pub paid_one : Account → Account
-paid_one a = record { left = a.left - 1; steps = a.steps + 1 }
+paid_one a = paid a (a.left - 1)
 
 -- An account later than another: no more is left, and each step between them has cost 1 at least.
 abbrev pub Later : Account → Account → Type 0
@@ -57,23 +60,31 @@ Halts clauses below room gs a stop b =
     → rules.evaluate_level clauses answer_room store_size below at l a ≡ rules.ended (rules.stopped stop) l b
 
 -- What a step on g, with gs after it, came to. The first `held` words of the store are as they were unless it goes on with other goals.
-abbrev pub Turned : Deck → ℕ → List ℕ → ℕ → Account → Goal → List Goal → List ℕ → Turn → Type 0
-Turned d below store held a g gs store' Empty = (g.literals ≡ []) × (take held store' ≡ take held store)
-Turned d below store held a g gs store' (Park m b) =
+abbrev pub Turned : Deck → ℕ → List ℕ → ℕ → Account → Goal → List Goal → List ℕ → Result Turn Halt → Type 0
+Turned d below store held a g gs store' (Ok Empty) = (g.literals ≡ []) × (take held store' ≡ take held store)
+Turned d below store held a g gs store' (Ok (Park m b)) =
     (b.left < a.left) × Later a b × (take held store' ≡ take held store)
     × Onward d.clauses below (length store) (g ∷ gs) (account_of a) (rules.with_parked (mark_of m) g gs) (account_of b)
-Turned d below store held a g gs store' (More h b) =
+Turned d below store held a g gs store' (Ok (More h b)) =
     (b.left < a.left) × Later a b
     × ((hs : List Goal) × Holding d.symbols store' h hs × Onward d.clauses below (length store) (g ∷ gs) (account_of a) (rules.with_pending hs) (account_of b))
-Turned d below store held a g gs store' (Stopped s b) =
-    Later a b × (take held store' ≡ take held store)
-    × Halts d.clauses below (length store) (g ∷ gs) (account_of a) (stop_of s) (account_of b)
+Turned d below store held a g gs store' (Err halt) =
+    Later a halt.account × (take held store' ≡ take held store)
+    × Halts d.clauses below (length store) (g ∷ gs) (account_of a) (stop_of halt.stop) (account_of halt.account)
 
 abbrev pub verdict_for : Verdict → rules.Verdict
 verdict_for Succeeds = rules.succeeds
 verdict_for Fails = rules.fails
 verdict_for Unsettled = rules.unsettled
-verdict_for (Interrupted s) = rules.interrupted (stop_of s)
+
+-- What a level's run says, and the account after it.
+abbrev pub said_by : Result Reply Halt → rules.Verdict
+said_by (Ok r) = verdict_for r.verdict
+said_by (Err halt) = rules.interrupted (stop_of halt.stop)
+
+abbrev pub account_after : Result Reply Halt → Account
+account_after (Ok r) = r.account
+account_after (Err halt) = halt.account
 
 -- What a finished level says, by whether something is parked.
 abbrev pub finished_by : Bool → rules.Verdict
@@ -87,9 +98,9 @@ Decides clauses below room gs a verdict b =
     → rules.reply_of (rules.evaluate_level clauses answer_room store_size below (rules.deeper outer) (record { pending = gs; parked = []; answers = [] }) a)
     ≡ rules.reply verdict b
 
-pub record Replied (d : Deck) (below room : ℕ) (gs : List Goal) (a : Account) (r : Reply) : Type 0 where
-  pub later : Later a r.account
-  pub decides : Decides d.clauses below room gs (account_of a) (verdict_for r.verdict) (account_of r.account)
+pub record Replied (d : Deck) (below room : ℕ) (gs : List Goal) (a : Account) (r : Result Reply Halt) : Type 0 where
+  pub later : Later a (account_after r)
+  pub decides : Decides d.clauses below room gs (account_of a) (said_by r) (account_of (account_after r))
 
 -- The cells from s up to e are those of the negative literal not p(ts), which has no variables.
 pub record Asking (row : List ℕ) (s e : ℕ) (S : List Symbol) (p : ℕ) (ts : Terms) : Type 0 where
@@ -141,14 +152,16 @@ pub record SomeNegating (deck_words store row : List ℕ) (held s e : ℕ) : Typ
   pub is : Negating deck_words store row held s e deck first goals before predicate terms after
 
 -- With a step paid, a new level past the words held, which has room for the goal of p(ts), gave the reply.
-pub record Asked (d : Deck) (below : ℕ) (store : List ℕ) (held : ℕ) (a : Account) (p : ℕ) (ts : Terms) (r : Reply) : Type 0 where
+pub record Asked (d : Deck) (below : ℕ) (store : List ℕ) (held : ℕ) (a : Account) (p : ℕ) (ts : Terms) (r : Result Reply Halt) : Type 0 where
   pub pays : 0 < a.left
   pub fits : held + goal_words (atom_goal p ts) ≤ length store
   pub replied : Replied d below (length store - held) (atom_goal p ts ∷ []) (paid_one a) r
 
 -- A step on a positive literal, by what became of the derived goals.
-abbrev pub expanded_to : Derived → Account → Turn
-expanded_to (Words end left) a = More end (record { left = left; steps = a.steps + 1 })
-expanded_to (Oversized left) a = Park marks.Oversized (record { left = left; steps = a.steps + 1 })
-expanded_to NoRoom a = Stopped Store a
-expanded_to Unpaid a = Stopped Budget a
+abbrev pub turn_of : Option ℕ → Account → Turn
+turn_of (Some held) b = More held b
+turn_of None b = Park marks.Oversized b
+
+abbrev pub expanded_to : Result Derived Stop → Account → Result Turn Halt
+expanded_to (Ok r) a = Ok (turn_of r.held (paid a r.left))
+expanded_to (Err stop) a = Err (record { stop = stop; account = a })

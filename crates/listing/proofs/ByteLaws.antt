@@ -4,11 +4,9 @@ use mathlib.Core.Path.{◌≡◌, refl}
 use mathlib.Core.List.{List, [], ◌∷◌, ◌++◌}
 use native.Mathlib.Omega.{arith}
 use native.Mathlib.Numerals.{add-one}
-use lib.ListN.{length, get_or, drop, set, length-drop}
+use lib.ListN.{length, get_or, drop, length-drop}
 use lib.Seq.{drop-cons}
 use Rattle.rules.specs.Program.{bytes_from}
-use Rattle.listing.specs.Put.{Put}
-use Rattle.listing.proofs.PutLaws.{put_byte, put_one}
 
 pub bytes_next :
     (words : List ℕ) (i : ℕ) → i < length words
@@ -28,6 +26,3 @@ pub bytes-length : (words : List ℕ) → length (bytes_from words) ≡ 2 * leng
 unfolding bytes_from
 bytes-length [] = refl
 bytes-length (w ∷ ws) = omega (arith, bytes-length ws)
-
-pub put_two : (out : List ℕ) (p q a b : ℕ) → q ≡ p + 1 + 1 → Put out p (a ∷ b ∷ []) q (set (set out p a) (p + 1) b)
-put_two out p q a b e = rw e (put_byte (put_one (set out p a) (p + 1) b))

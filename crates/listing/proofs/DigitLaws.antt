@@ -1,11 +1,11 @@
 -- Decimal digits by weights are the digits of the written rules, for every number below the power of ten above the weights.
-use Prim.Native.Nat.{ℕ, zero, suc, ◌+◌, ◌-◌, ◌*◌, ◌/◌, ◌%◌, ◌≤◌, ◌<◌}
+use Prim.Native.Nat.{ℕ, zero, suc, ◌+◌, ◌-◌, ◌*◌, ◌/◌, ◌%◌, ◌^◌, ◌≤◌, ◌<◌}
 use mathlib.Core.Path.{◌≡◌, refl, ap, ap₂, sym, ◌∙◌}
 use mathlib.Core.Bool.{Bool, true, false, ◌||◌}
 use mathlib.Core.List.{List, [], ◌∷◌, ◌++◌, append_assoc, append-nil}
 use native.Mathlib.Omega.{arith}
 use native.Mathlib.Decide.{dec_lt}
-use native.Mathlib.Nat.{le-div_iff_mul-le, div-lt_iff_lt-mul, div-div-eq-div-mul, div-one, mul_comm, zero-add, suc-add}
+use native.Mathlib.Nat.{pow-suc, le-div_iff_mul-le, div-lt_iff_lt-mul, div-div-eq-div-mul, div-one, mul_comm}
 use lib.Dec.{leb, eqb}
 use lib.ListN.{length, length-append}
 use borrow.Author.Tests.{lt-ltb, le-ltb, le-leb, lt-leb, ne_eqb}
@@ -167,10 +167,7 @@ pub digits-next : (k n : ℕ) → 0 < k → digits_at (weights_of k) n ≡ digit
 digits-next zero n h = absurd (omega arith)
 digits-next (suc k) n h = let e : suc k - 1 ≡ k = omega arith in rw e
 
--- The weights that are worked out fit their type.
-weight-rises : (i d : ℕ) → weight_at i ≤ weight_at (d + i)
-weight-rises i zero = omega (arith, ap weight_at (zero-add i))
-weight-rises i (suc d) = omega (arith, weight-rises i d, ap weight_at (suc-add d i))
-
-pub weight-small : (i : ℕ) → i < 4 → weight_at i ≤ 1000
-weight-small i h = let z : 3 - i + i ≡ 3 = omega arith in rw z at (weight-rises i (3 - i))
+-- A weight is a power of ten.
+pub power_weight : (k : ℕ) → 10 ^ k ≡ weight_at k
+power_weight zero = refl
+power_weight (suc k) = omega (arith, power_weight k, pow-suc 10 k)

@@ -1,26 +1,28 @@
--- Words from bytes, word by word.
-use Prim.Native.Nat.{ℕ, suc, ◌+◌, ◌*◌, ◌<◌}
+-- Words from bytes, pair by pair.
+use Prim.Native.Nat.{ℕ, zero, suc, ◌+◌, ◌*◌, ◌/◌, ◌≤◌, ◌<◌}
 use mathlib.Core.Path.{◌≡◌, refl}
 use mathlib.Core.List.{List, [], ◌∷◌}
 use native.Mathlib.Omega.{arith}
-use native.Mathlib.Numerals.{add-one}
-use lib.ListN.{length, get_or, drop, length-drop}
-use lib.Seq.{drop-cons}
+use lib.ListN.{length, get_or}
+use Rattle.std.specs.Simd.{first_chunks}
 use Rattle.rules.specs.Program.{words_from}
 
-pub words-next :
-    (bytes : List ℕ) (i : ℕ) → 2 * i + 1 < length bytes
-    → words_from (drop (2 * i) bytes) ≡ (get_or bytes (2 * i) 0 + 256 * get_or bytes (2 * i + 1) 0) ∷ words_from (drop (2 * (i + 1)) bytes)
+pub words-length : (bytes : List ℕ) → length (words_from bytes) ≡ length bytes / 2
 unfolding words_from
-words-next bytes i h =
-    let e : 2 * (i + 1) ≡ suc (suc (2 * i)) = omega arith in
-    rw (e, add-one, drop-cons bytes (2 * i) 0 (omega arith), drop-cons bytes (suc (2 * i)) 0 (omega arith))
+words-length [] = refl
+words-length (low ∷ []) = refl
+words-length (low ∷ high ∷ bytes) = omega (arith, words-length bytes)
 
-no_words : (bytes : List ℕ) → length bytes < 2 → words_from bytes ≡ []
+-- The word of a pair.
+abbrev pub word_of : List ℕ → ℕ
+word_of pair = get_or pair 0 0 + get_or pair 1 0 * 256
+
+pub words-at :
+    (k : ℕ) (bytes : List ℕ) (i : ℕ) → 2 * k ≤ length bytes → i < k
+    → get_or (words_from bytes) i 0 ≡ word_of (get_or (first_chunks 2 k bytes) i [])
 unfolding words_from
-no_words [] h = refl
-no_words (low ∷ []) h = refl
-no_words (low ∷ high ∷ bytes) h = absurd (omega arith)
-
-pub words-end : (bytes : List ℕ) (i : ℕ) → length bytes < 2 * i + 2 → words_from (drop (2 * i) bytes) ≡ []
-words-end bytes i h = no_words (drop (2 * i) bytes) (omega (arith, length-drop (2 * i) bytes))
+words-at zero bytes i h l = absurd (omega arith)
+words-at (suc k) [] i h l = absurd (omega arith)
+words-at (suc k) (low ∷ []) i h l = absurd (omega arith)
+words-at (suc k) (low ∷ high ∷ bytes) zero h l = omega arith
+words-at (suc k) (low ∷ high ∷ bytes) (suc i) h l = words-at k bytes i (omega arith) (omega arith)

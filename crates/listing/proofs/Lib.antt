@@ -3,6 +3,8 @@ pub mod DigitLaws
 pub mod InputLaws
 pub mod PrintLaws
 pub mod StandLaws
+mod ArgumentLaws
+mod RowLaws
 pub mod LineLaws
 pub mod AnswerLaws
 pub mod RunLaws

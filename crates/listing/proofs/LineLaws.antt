@@ -1,9 +1,12 @@
 -- The lines in front of the answers: the verdict's cases, the numbers in parts, and how long the lines are.
-use Prim.Native.Nat.{ℕ, ◌≤◌}
+use Prim.Native.Nat.{ℕ, suc, ◌+◌, ◌*◌, ◌≤◌, ◌<◌}
 use mathlib.Core.Path.{◌≡◌, refl, ap, sym, ◌∙◌}
 use mathlib.Core.List.{List, [], ◌∷◌, ◌++◌, append_assoc}
 use native.Mathlib.Omega.{arith}
-use lib.ListN.{length, length-append}
+use native.Mathlib.Numerals.{add-one}
+use lib.ListN.{length, get_or, drop, length-append, drop_of_length-le}
+use lib.Seq.{drop-cons}
+use Rattle.rules.specs.WellFormed.{All}
 use Rattle.rules.specs.Syntax.{Goal}
 use Rattle.rules.specs.Goals.{Marked}
 use Rattle.rules.specs.Evaluation.{finished, budget, answers, store, Outcome}
@@ -15,8 +18,8 @@ use Rattle.report.specs.Reports.{stop_of, report_of}
 use Rattle.report.specs.declared.Report.{Report}
 use Rattle.report.specs.declared.Stop.{Stop}
 use Rattle.report.specs.declared.Stop.TheVariants.{Finished, Budget, Answers, Store}
-use Rattle.listing.specs.Shown.{counts_text, head_text}
-use Rattle.listing.proofs.DigitLaws.{decimal-append}
+use Rattle.listing.specs.Shown.{numbers_text, counts_text, head_text}
+use Rattle.listing.proofs.DigitLaws.{decimal-append, decimal-length}
 
 -- The verdict.
 pub verdict-parked : (ms : List Marked) (gs : List Goal) → (length ms ≡ 0 → ⊥) → verdict_text finished ms gs ≡ open_text
@@ -44,13 +47,18 @@ verdict-cut ms gs Answers h = refl
 verdict-cut ms gs Store h = refl
 
 -- The numbers of the second line, one after another, and what follows them.
-number-then : (n : ℕ) (xs ys : List ℕ) → xs ≡ ys → 32 ∷ decimal n xs ≡ (32 ∷ decimal n []) ++ ys
-number-then n xs ys e = ap {B = List ℕ} (λ x. 32 ∷ x) (decimal-append n [] xs ∙ ap (decimal n [] ++◌) e)
+pub numbers-next : (ns : List ℕ) (i : ℕ) → i < length ns → numbers_text (drop i ns) ≡ (32 ∷ decimal (get_or ns i 0) []) ++ numbers_text (drop (i + 1) ns)
+numbers-next ns i h =
+    rw (add-one, drop-cons ns i 0 h) (ap {B = List ℕ} (λ x. 32 ∷ x) (decimal-append (get_or ns i 0) [] (numbers_text (drop (suc i) ns))))
 
-pub counts-parts :
-    (a b c d e : ℕ)
-    → counts_text a b c d e ≡ (32 ∷ decimal a []) ++ ((32 ∷ decimal b []) ++ ((32 ∷ decimal c []) ++ ((32 ∷ decimal d []) ++ ((32 ∷ decimal e []) ++ (10 ∷ [])))))
-counts-parts a b c d e = number-then a _ _ (number-then b _ _ (number-then c _ _ (number-then d _ _ (number-then e _ _ refl))))
+pub numbers-end : (ns : List ℕ) (i : ℕ) → length ns ≤ i → numbers_text (drop i ns) ≡ 10 ∷ []
+numbers-end ns i h = rw (drop_of_length-le ns {i = i} h) refl
+
+numbers-length : (ns : List ℕ) → All (λ n. n < 4294967296) ns → length (numbers_text ns) ≤ 11 * length ns + 1
+numbers-length [] a = omega arith
+numbers-length (n ∷ ns) a =
+    let l : n < 4294967296 = a.0 in
+    omega (arith, ap length (decimal-append n [] (numbers_text ns)), length-append (decimal n []) (numbers_text ns), decimal-length 9 n (omega arith), numbers-length ns a.1)
 
 number-before : (n : ℕ) (xs rest ys : List ℕ) → ys ≡ xs ++ rest → 32 ∷ decimal n ys ≡ (32 ∷ decimal n xs) ++ rest
 number-before n xs rest ys e = ap {B = List ℕ} (λ x. 32 ∷ x) (ap (decimal n) e ∙ decimal-append n xs rest)
@@ -78,18 +86,8 @@ stop-length answers = omega arith
 stop-length store = omega arith
 
 pub counts-length :
-    (a b c d e : ℕ) → length (decimal a []) ≤ 10 → length (decimal b []) ≤ 10 → length (decimal c []) ≤ 10 → length (decimal d []) ≤ 10 → length (decimal e []) ≤ 10
-    → length (counts_text a b c d e) ≤ 56
-counts-length a b c d e ha hb hc hd he =
-    omega (
-      arith,
-      ap length (counts-parts a b c d e),
-      length-append (decimal a []) ((32 ∷ decimal b []) ++ ((32 ∷ decimal c []) ++ ((32 ∷ decimal d []) ++ ((32 ∷ decimal e []) ++ (10 ∷ []))))),
-      length-append (decimal b []) ((32 ∷ decimal c []) ++ ((32 ∷ decimal d []) ++ ((32 ∷ decimal e []) ++ (10 ∷ [])))),
-      length-append (decimal c []) ((32 ∷ decimal d []) ++ ((32 ∷ decimal e []) ++ (10 ∷ []))),
-      length-append (decimal d []) ((32 ∷ decimal e []) ++ (10 ∷ [])),
-      length-append (decimal e []) (10 ∷ []),
-    )
+    (a b c d e : ℕ) → a < 4294967296 → b < 4294967296 → c < 4294967296 → d < 4294967296 → e < 4294967296 → length (counts_text a b c d e) ≤ 56
+counts-length a b c d e ha hb hc hd he = numbers-length (a ∷ b ∷ c ∷ d ∷ e ∷ []) (ha, (hb, (hc, (hd, (he, tt)))))
 
 -- A listing is its first two lines and then the answers.
 pub listing-parts : (o : Outcome) → listing (accepted o) ≡ head_text o ++ print_answers o.answers

@@ -12,7 +12,7 @@ use Rattle.rules.specs.Listing.{decimal, print_term, print_arguments, print_more
 use Rattle.rules.specs.Goals.{words_of}
 use Rattle.rules.proofs.GoalLaws.{goal-words, goal-small}
 use Rattle.rules.proofs.CellLaws.{Small, after-term, written_as}
-use Rattle.listing.specs.Standing.{show_term, show_arguments, show_more, show_after}
+use Rattle.listing.specs.Standing.{show_term, show_arguments, show_more}
 use Rattle.listing.proofs.DigitLaws.{decimal-append, decimal-length}
 
 -- What follows is put behind.
@@ -33,18 +33,12 @@ module _ (sign : ℕ) where
     more-append (cons t ts) xs rest =
         ap {B = List ℕ} (λ x. 44 ∷ x) (ap (show_term sign t) (more-append ts xs rest) ∙ show-append t (show_more sign ts xs) rest)
 
-  -- Terms after a mark, and arguments.
-  after-comma : (ts : Terms) → show_more sign ts [] ≡ show_after 44 sign ts
-  after-comma nil = refl
-  after-comma (cons t ts) = refl
+  -- Terms after commas, and the closing bracket.
+  pub after-comma : (t : Term) (ts : Terms) (rest : List ℕ) → show_more sign (cons t ts) rest ≡ (44 ∷ []) ++ (show_term sign t [] ++ show_more sign ts rest)
+  after-comma t ts rest = ap {B = List ℕ} (λ x. 44 ∷ x) (show-append t [] (show_more sign ts rest))
 
-  pub after-mark : (mark : ℕ) (t : Term) (ts : Terms) → show_after mark sign (cons t ts) ≡ mark ∷ (show_term sign t [] ++ show_after 44 sign ts)
-  after-mark mark t ts = ap {B = List ℕ} (λ x. mark ∷ x) (show-append t [] (show_more sign ts []) ∙ ap (show_term sign t [] ++◌) (after-comma ts))
-
-  in-brackets : (ts : Terms) → (count ts ≡ 0 → ⊥) → show_arguments sign ts [] ≡ show_after 40 sign ts ++ (41 ∷ [])
-  in-brackets nil h = absurd (h refl)
-  in-brackets (cons t ts) h =
-      ap {B = List ℕ} (λ x. 40 ∷ x) (ap (show_term sign t) (more-append ts [] (41 ∷ [])) ∙ show-append t (show_more sign ts []) (41 ∷ []))
+  in-brackets : (t : Term) (ts : Terms) → show_arguments sign (cons t ts) [] ≡ (40 ∷ []) ++ (show_term sign t [] ++ show_more sign ts (41 ∷ []))
+  in-brackets t ts = ap {B = List ℕ} (λ x. 40 ∷ x) (show-append t [] (show_more sign ts (41 ∷ [])))
 
   -- A symbol without arguments, and with them.
   pub no_arguments : (f : ℕ) (ts : Terms) → count ts ≡ 0 → (show_term sign (app f ts) [] ≡ 115 ∷ decimal f []) × (sizes ts ≡ 0)
@@ -54,8 +48,10 @@ module _ (sign : ℕ) where
   pub name-apart : (f : ℕ) (ts : Terms) → show_term sign (app f ts) [] ≡ (115 ∷ decimal f []) ++ show_arguments sign ts []
   name-apart f ts = ap {B = List ℕ} (λ x. 115 ∷ x) (decimal-append f [] (show_arguments sign ts []))
 
-  pub applied-parts : (f : ℕ) (ts : Terms) → (count ts ≡ 0 → ⊥) → show_term sign (app f ts) [] ≡ (115 ∷ decimal f []) ++ (show_after 40 sign ts ++ (41 ∷ []))
-  applied-parts f ts h = name-apart f ts ∙ ap ((115 ∷ decimal f []) ++◌) (in-brackets ts h)
+  pub applied-parts :
+      (f : ℕ) (t : Term) (ts : Terms)
+      → show_term sign (app f (cons t ts)) [] ≡ (115 ∷ decimal f []) ++ ((40 ∷ []) ++ (show_term sign t [] ++ show_more sign ts (41 ∷ [])))
+  applied-parts f t ts = name-apart f (cons t ts) ∙ ap ((115 ∷ decimal f []) ++◌) (in-brackets t ts)
 
 -- The listing's terms.
 mutual

@@ -1,6 +1,7 @@
 -- What was put at the start of a buffer is what its first bytes or words are.
 use Prim.Native.Nat.{ℕ, ◌+◌, ◌*◌, ◌≤◌, ◌<◌}
 use mathlib.Core.Path.{◌≡◌, ap, sym, ◌∙◌}
+use mathlib.Core.Option.{some}
 use mathlib.Core.Bool.{Bool, true, false, ◌&&◌, false≢true}
 use mathlib.Core.List.{List, [], ◌∷◌}
 use native.Mathlib.Omega.{arith}
@@ -47,8 +48,8 @@ last-true : (a b : Bool) → a && b ≡ true → b ≡ true
 last-true true b e = e
 last-true false b e = absurd (false≢true e)
 
-pub file-small : (present : Bool) (bytes : List ℕ) → deck_fits present bytes ≡ true → length bytes ≤ 32768
-file-small present bytes e = leb-true (length bytes) 32768 (last-true (even bytes) _ (last-true present _ e))
+pub file-small : (bytes : List ℕ) → deck_fits (some bytes) ≡ true → length bytes ≤ 32768
+file-small bytes e = leb-true (length bytes) 32768 (last-true (even bytes) _ e)
 
 -- The words of bytes.
 words-length : (bytes : List ℕ) → 2 * length (words_from bytes) ≤ length bytes

@@ -1,17 +1,13 @@
 -- Texts put one after another.
-use Prim.Native.Nat.{ℕ, suc, ◌+◌, ◌≤◌}
+use Prim.Native.Nat.{ℕ, ◌+◌, ◌≤◌}
 use mathlib.Core.Path.{◌≡◌, refl, ap, sym, ◌∙◌}
 use mathlib.Core.List.{List, [], ◌∷◌, ◌++◌}
 use native.Mathlib.Omega.{arith}
-use native.Mathlib.Nat.{add-zero, add-suc, suc-add}
-use native.Mathlib.Numerals.{add-one}
 use lib.ListN.{length, take, drop, set, length-append}
 use lib.Seq.{sets, sets-eq, length-sets, take_at}
-use Rattle.listing.specs.Put.{Put}
-
-sets-append : (xs ys l : List ℕ) (at : ℕ) → sets (sets l at xs) (at + length xs) ys ≡ sets l at (xs ++ ys)
-sets-append [] ys l at = rw add-zero
-sets-append (x ∷ xs) ys l at = rw (add-suc, ← suc-add) (sets-append xs ys (set l at x) (suc at))
+use Rattle.words.proofs.Sets.{sets-append}
+use Rattle.listing.specs.declared.output.Output.{Output}
+use Rattle.listing.specs.Put.{Put, Fits, Adds}
 
 pub put-nothing : (out : List ℕ) (at : ℕ) → Put out at [] at out
 put-nothing out at = record { place = omega arith; bytes = refl }
@@ -24,48 +20,73 @@ put_then {out} {at} {xs} {p} {between} {ys} a b = record {
   bytes = b.bytes ∙ rw (a.bytes, a.place, sets-append);
 }
 
--- A byte, and then a text.
-pub put_byte :
-    {out : List ℕ} {at b : ℕ} {xs : List ℕ} {end : ℕ} {after : List ℕ} → Put (set out at b) (at + 1) xs end after → Put out at (b ∷ xs) end after
-put_byte {at} a = record { place = omega (arith, a.place); bytes = rw (add-one at) at a.bytes }
-
 pub put-length : {out : List ℕ} {at : ℕ} {xs : List ℕ} {end : ℕ} {after : List ℕ} → Put out at xs end after → length after ≡ length out
 put-length {out} {at} {xs} a = ap length a.bytes ∙ length-sets out at xs
 
-pub put_one : (out : List ℕ) (at b : ℕ) → Put out at (b ∷ []) (at + 1) (set out at b)
-put_one out at b = put_byte (put-nothing (set out at b) (at + 1))
+-- A list written one by one.
+pub put_next : {out xs : List ℕ} {p : ℕ} {after : List ℕ} (b : ℕ) → Put out 0 xs p after → Put out 0 (xs ++ (b ∷ [])) (p + 1) (set after p b)
+put_next {p} {after} b a = put_then a (record { place = refl; bytes = refl })
 
--- A text of which `rest` is still to be put, at p.
-pub record Left (out₀ : List ℕ) (at : ℕ) (whole out : List ℕ) (p : ℕ) (rest : List ℕ) : Type 0 where
-  pub place : p + length rest ≡ at + length whole
-  pub size : length out ≡ length out₀
-  pub bytes : sets out p rest ≡ sets out₀ at whole
+-- One after another.
+pub adds_nothing : (out : Output) → Adds out [] out
+adds_nothing out = record { put = put-nothing out.bytes.now out.at; same_reference = refl }
 
-pub all_left : (out : List ℕ) (at : ℕ) {text rest : List ℕ} → text ≡ rest → Left out at text out at rest
-all_left out at e = record { place = ap (λ (l : List ℕ). at + length l) (sym e); size = refl; bytes = ap (sets out at) (sym e) }
+pub adds_then : {out : Output} {xs : List ℕ} {between : Output} {ys : List ℕ} {after : Output} → Adds out xs between → Adds between ys after → Adds out (xs ++ ys) after
+adds_then a b = record { put = put_then a.put b.put; same_reference = b.same_reference ∙ a.same_reference }
 
-pub put_some :
-    {out₀ : List ℕ} {at : ℕ} {whole out : List ℕ} {p : ℕ} {xs ys : List ℕ} {end : ℕ} {after : List ℕ}
-    → Left out₀ at whole out p (xs ++ ys) → Put out p xs end after → Left out₀ at whole after end ys
-put_some {xs} {ys} l a = record {
-  place = omega (arith, l.place, a.place, length-append xs ys);
-  size = put-length a ∙ l.size;
-  bytes = rw (a.bytes, a.place, sets-append) l.bytes;
+pub adds-length : {out : Output} {xs : List ℕ} {after : Output} → Adds out xs after → length after.bytes.now ≡ length out.bytes.now
+adds-length a = put-length a.put
+
+-- An output that a text was added to from the start on, and that holds what the bytes then are.
+pub put_at_start :
+    {bytes : List ℕ} {out : Output} {text : List ℕ} {after : Output} {left : List ℕ}
+    → out.bytes.now ≡ bytes → out.at ≡ 0 → Adds out text after → left ≡ after.bytes.now → Put bytes 0 text after.at left
+put_at_start {text} b z a e = rw (← b, ← z, e) a.put
+
+-- A text of which `rest` is still to be put.
+pub record Left (before : Output) (whole : List ℕ) (out : Output) (rest : List ℕ) : Type 0 where
+  pub place : out.at + length rest ≡ before.at + length whole
+  pub size : length out.bytes.now ≡ length before.bytes.now
+  pub bytes : sets out.bytes.now out.at rest ≡ sets before.bytes.now before.at whole
+  pub same_reference : out.bytes.ghost_name ≡ before.bytes.ghost_name
+
+pub all_left : (out : Output) {text rest : List ℕ} → text ≡ rest → Left out text out rest
+all_left out e = record {
+  place = ap (λ (l : List ℕ). out.at + length l) (sym e);
+  size = refl;
+  bytes = ap (sets out.bytes.now out.at) (sym e);
+  same_reference = refl;
 }
 
-pub none_left : {out₀ : List ℕ} {at : ℕ} {whole out : List ℕ} {p : ℕ} → Left out₀ at whole out p [] → Put out₀ at whole p out
-none_left l = record { place = omega (arith, l.place); bytes = l.bytes }
+pub put_some :
+    {before : Output} {whole : List ℕ} {out : Output} {xs ys : List ℕ} {after : Output}
+    → Left before whole out (xs ++ ys) → Adds out xs after → Left before whole after ys
+put_some {xs} {ys} l a = record {
+  place = omega (arith, l.place, a.put.place, length-append xs ys);
+  size = adds-length a ∙ l.size;
+  bytes = rw (a.put.bytes, a.put.place, sets-append) l.bytes;
+  same_reference = a.same_reference ∙ l.same_reference;
+}
+
+pub none_left : {before : Output} {whole : List ℕ} {out : Output} → Left before whole out [] → Adds before whole out
+none_left l = record { put = record { place = omega (arith, l.place); bytes = l.bytes }; same_reference = l.same_reference }
 
 pub put_last :
-    {out₀ : List ℕ} {at : ℕ} {whole out : List ℕ} {p : ℕ} {rest : List ℕ} {end : ℕ} {after : List ℕ}
-    → Left out₀ at whole out p rest → Put out p rest end after → Put out₀ at whole end after
-put_last l a = record { place = a.place ∙ l.place; bytes = a.bytes ∙ l.bytes }
+    {before : Output} {whole : List ℕ} {out : Output} {rest : List ℕ} {after : Output}
+    → Left before whole out rest → Adds out rest after → Adds before whole after
+put_last l a = record {
+  put = record { place = a.put.place ∙ l.place; bytes = a.put.bytes ∙ l.bytes };
+  same_reference = a.same_reference ∙ l.same_reference;
+}
 
 -- There is room for what is left, if there was for the whole.
 pub left-room :
-    {out₀ : List ℕ} {at : ℕ} {whole out : List ℕ} {p : ℕ} (xs ys : List ℕ)
-    → Left out₀ at whole out p (xs ++ ys) → at + length whole ≤ length out₀ → p + length xs ≤ length out
+    {before : Output} {whole : List ℕ} {out : Output} (xs ys : List ℕ)
+    → Left before whole out (xs ++ ys) → Fits before whole → Fits out xs
 left-room xs ys l h = omega (arith, l.place, l.size, length-append xs ys)
+
+pub rest-room : {before : Output} {whole : List ℕ} {out : Output} {rest : List ℕ} → Left before whole out rest → Fits before whole → Fits out rest
+rest-room l h = omega (arith, l.place, l.size, h)
 
 -- A text put at the start is what stands before the place returned.
 pub put_whole : {out text : List ℕ} {end : ℕ} {after : List ℕ} → Put out 0 text end after → length text ≤ length out → take end after ≡ text

@@ -1,5 +1,5 @@
 -- Answers whose words stand in the answer list, what is printed of them, and the first two lines of an accepted run's listing.
-use Rattle.std.specs.Prelude.{ℕ, ◌+◌, ◌≤◌, ◌≡◌, List, [], ◌∷◌, ◌++◌, length, drop}
+use Rattle.std.specs.Prelude.{ℕ, ◌≡◌, List, [], ◌∷◌, ◌++◌, length}
 use Rattle.std.proofs.Math.Option.{some}
 use Rattle.rules.specs.Terms.{Terms, sizes}
 use Rattle.rules.specs.Syntax.{Symbol, Goal}
@@ -11,40 +11,43 @@ use Rattle.rules.specs.Listing.{decimal, print_answers, verdict_text, stop_text}
 use Rattle.rules.specs.Run as run
 use Rattle.report.specs.Reports.{report_of}
 use Rattle.report.specs.declared.Report.{Report}
-use Rattle.listing.specs.Put.{Put}
+use Rattle.listing.specs.declared.output.Output.{Output}
+use Rattle.listing.specs.Put.{Fits, Adds}
 use Rattle.listing.specs.Standing.{TermsAt}
 
--- Terms whose cells run from one place to another: room for a text of them, and that this text is what is printed.
-module _ (symbol_words cells : List ℕ) (from to : ℕ) (text : Terms → List ℕ) where
-  abbrev pub RowFits : List ℕ → ℕ → Type 0
-  RowFits out at = (ts : Terms) × TermsAt symbol_words cells from ts × (to ≡ from + sizes ts) × (at + length (text ts) ≤ length out)
+-- Terms whose cells are a whole row: room for a text of them, and that this text is what is printed.
+module _ (symbol_words row : List ℕ) (text : Terms → List ℕ) where
+  abbrev pub RowFits : Output → Type 0
+  RowFits out = (ts : Terms) × TermsAt symbol_words row ts × (length row ≡ sizes ts) × Fits out (text ts)
 
-  abbrev pub RowPrinted : List ℕ → ℕ → ℕ → List ℕ → Type 0
-  RowPrinted out at end after =
-      (ts : Terms) → TermsAt symbol_words cells from ts → to ≡ from + sizes ts → Put out at (text ts) end after
+  abbrev pub RowPrinted : Output → Output → Type 0
+  RowPrinted out after = (ts : Terms) → TermsAt symbol_words row ts → length row ≡ sizes ts → Adds out (text ts) after
 
--- The words of answers begin at `from`: well-formed goals without literals.
-pub record AnswersAt (symbol_words list : List ℕ) (from : ℕ) (gs : List Goal) : Type 0 where
+-- The list begins with the words of answers: well-formed goals without literals.
+pub record AnswersAt (symbol_words list : List ℕ) (gs : List Goal) : Type 0 where
   pub symbols : List Symbol
   pub rest : List ℕ
   pub read : read_all read_symbol symbol_words ≡ some symbols
-  pub written : drop from list ≡ write_goals (unmarked gs) ++ rest
+  pub written : list ≡ write_goals (unmarked gs) ++ rest
   pub formed : All (WfGoal symbols) gs
   pub bare : All (λ g. g.literals ≡ []) gs
 
--- The same for so many answers from the start of the answer list.
+-- The same for so many answers.
 module _ (symbol_words list : List ℕ) (number : ℕ) where
-  abbrev pub AnswersFit : List ℕ → ℕ → Type 0
-  AnswersFit out at = (gs : List Goal) × AnswersAt symbol_words list 0 gs × (length gs ≡ number) × (at + length (print_answers gs) ≤ length out)
+  abbrev pub AnswersFit : Output → Type 0
+  AnswersFit out = (gs : List Goal) × AnswersAt symbol_words list gs × (length gs ≡ number) × Fits out (print_answers gs)
 
-  abbrev pub AnswersPrinted : List ℕ → ℕ → ℕ → List ℕ → Type 0
-  AnswersPrinted out at end after =
-      (gs : List Goal) → AnswersAt symbol_words list 0 gs → length gs ≡ number → Put out at (print_answers gs) end after
+  abbrev pub AnswersPrinted : Output → Output → Type 0
+  AnswersPrinted out after = (gs : List Goal) → AnswersAt symbol_words list gs → length gs ≡ number → Adds out (print_answers gs) after
 
--- The numbers of the second line, and the first two lines of a listing.
+-- Numbers with a space in front of each, and the line's end.
+abbrev pub numbers_text : List ℕ → List ℕ
+numbers_text [] = 10 ∷ []
+numbers_text (n ∷ ns) = 32 ∷ decimal n (numbers_text ns)
+
+-- The second line's numbers, and the first two lines of a listing.
 abbrev pub counts_text : ℕ → ℕ → ℕ → ℕ → ℕ → List ℕ
-counts_text steps answers pending parked cost =
-    32 ∷ decimal steps (32 ∷ decimal answers (32 ∷ decimal pending (32 ∷ decimal parked (32 ∷ decimal cost (10 ∷ [])))))
+counts_text steps answers pending parked cost = numbers_text (steps ∷ answers ∷ pending ∷ parked ∷ cost ∷ [])
 
 abbrev pub head_text : Outcome → List ℕ
 head_text o =
@@ -54,4 +57,4 @@ head_text o =
 -- The report and the answer list are what a run of this outcome returns and leaves.
 pub record Shown (o : Outcome) (report : Report) (list symbol_words : List ℕ) : Type 0 where
   pub reported : report_of report ≡ run.report o
-  pub answers : AnswersAt symbol_words list 0 o.answers
+  pub answers : AnswersAt symbol_words list o.answers

@@ -1,5 +1,5 @@
--- Terms whose cells stand at a place of a slice of words, and what the walks that print them promise.
-use Rattle.std.specs.Prelude.{ℕ, ◌+◌, ◌<◌, ◌≤◌, ◌≡◌, List, [], ◌∷◌, length, drop}
+-- Terms whose cells a slice of words begins with, and what the walks that print them promise.
+use Rattle.std.specs.Prelude.{ℕ, ◌<◌, ◌≤◌, ◌≡◌, List, [], ◌∷◌, drop}
 use Rattle.std.proofs.Math.Option.{some}
 use Rattle.rules.specs.Terms.{Term, var, app, Terms, nil, cons, count, size, sizes, vars_terms}
 use Rattle.rules.specs.Syntax.{Symbol}
@@ -7,19 +7,21 @@ use Rattle.rules.specs.Cells.{write_terms}
 use Rattle.rules.specs.Decks.{read_symbol, read_all}
 use Rattle.rules.specs.WellFormed.{All, WfTerms}
 use Rattle.rules.specs.Listing.{decimal}
-use Rattle.listing.specs.Put.{Put}
+use Rattle.signature.specs.Symbols.{symbol_count, arity_at}
+use Rattle.listing.specs.declared.output.Output.{Output}
+use Rattle.listing.specs.Put.{Fits, Adds}
 
--- The cells of well-formed terms begin at `from`. The symbols are those that the symbol words are read as.
-pub record TermsAt (symbol_words cells : List ℕ) (from : ℕ) (ts : Terms) : Type 0 where
+-- The cells begin with those of well-formed terms. The symbols are those that the symbol words are read as.
+pub record TermsAt (symbol_words cells : List ℕ) (ts : Terms) : Type 0 where
   pub symbols : List Symbol
   pub rest : List ℕ
   pub read : read_all read_symbol symbol_words ≡ some symbols
-  pub written : drop from cells ≡ write_terms ts rest
+  pub written : cells ≡ write_terms ts rest
   pub formed : WfTerms symbols ts
   pub small : All (λ v. v ≤ 1023) (vars_terms ts [])
 
-abbrev pub TermAt : List ℕ → List ℕ → ℕ → Term → Type 0
-TermAt symbol_words cells from t = TermsAt symbol_words cells from (cons t nil)
+abbrev pub TermAt : List ℕ → List ℕ → Term → Type 0
+TermAt symbol_words cells t = TermsAt symbol_words cells (cons t nil)
 
 -- Terms as text: a variable as `sign` and its number, a symbol as `s` and its number, arguments in round brackets with commas. The listing's sign is `v`.
 abbrev mutual
@@ -35,37 +37,29 @@ abbrev mutual
   show_more sign nil rest = rest
   show_more sign (cons t ts) rest = 44 ∷ show_term sign t (show_more sign ts rest)
 
--- A byte in front of the first term, and a comma in front of each other one.
-abbrev pub show_after : ℕ → ℕ → Terms → List ℕ
-show_after mark sign nil = []
-show_after mark sign (cons t ts) = mark ∷ show_term sign t (show_more sign ts [])
+-- The walk printed `text` and passed so many cells.
+pub record Walked (out : Output) (cells : List ℕ) (text : List ℕ) (count : ℕ) (after : Output) (others : List ℕ) : Type 0 where
+  pub adds : Adds out text after
+  pub passed : others ≡ drop count cells
 
--- The walk printed `text`, which ends at `end`, and passed over `cells` cells to the place `next`.
-pub record Walked (out : List ℕ) (at from : ℕ) (text : List ℕ) (cells : ℕ) (end next : ℕ) (after : List ℕ) : Type 0 where
-  pub put : Put out at text end after
-  pub passed : next ≡ from + cells
+-- Room for the text of what the cells begin with, and that this text is what is printed, whatever they begin with.
+module _ (symbol_words cells : List ℕ) where
+  abbrev pub TermFits : ℕ → Output → Type 0
+  TermFits sign out = (t : Term) × TermAt symbol_words cells t × Fits out (show_term sign t [])
 
--- Room for the text of what stands at a place, and that this text is what is printed, whatever stands there.
-module _ (symbol_words cells : List ℕ) (from : ℕ) where
-  abbrev pub TermFits : ℕ → List ℕ → ℕ → Type 0
-  TermFits sign out at = (t : Term) × TermAt symbol_words cells from t × (at + length (show_term sign t []) ≤ length out)
+  abbrev pub TermPrinted : ℕ → Output → Output → List ℕ → Type 0
+  TermPrinted sign out after others =
+      (t : Term) → TermAt symbol_words cells t → Walked out cells (show_term sign t []) (size t) after others
 
-  abbrev pub TermPrinted : ℕ → List ℕ → ℕ → ℕ → ℕ → List ℕ → Type 0
-  TermPrinted sign out at end next after =
-      (t : Term) → TermAt symbol_words cells from t → Walked out at from (show_term sign t []) (size t) end next after
+  -- A symbol's arguments.
+  pub record ArgumentsAt (symbol : ℕ) (ts : Terms) : Type 0 where
+    pub known : symbol < symbol_count symbol_words
+    pub arity : arity_at symbol_words symbol ≡ count ts
+    pub arguments : TermsAt symbol_words cells ts
 
-  abbrev pub AppliedFits : ℕ → ℕ → ℕ → List ℕ → ℕ → Type 0
-  AppliedFits symbol arity sign out at =
-      (symbol < 65536) × (ts : Terms) × TermsAt symbol_words cells from ts × (count ts ≡ arity) × (at + length (show_term sign (app symbol ts) []) ≤ length out)
+  abbrev pub AppliedFits : ℕ → ℕ → Output → Type 0
+  AppliedFits symbol sign out = (ts : Terms) × ArgumentsAt symbol ts × Fits out (show_term sign (app symbol ts) [])
 
-  abbrev pub AppliedPrinted : ℕ → ℕ → ℕ → List ℕ → ℕ → ℕ → ℕ → List ℕ → Type 0
-  AppliedPrinted symbol arity sign out at end next after =
-      (ts : Terms) → TermsAt symbol_words cells from ts → count ts ≡ arity → Walked out at from (show_term sign (app symbol ts) []) (sizes ts) end next after
-
-  abbrev pub TermsFit : ℕ → ℕ → ℕ → List ℕ → ℕ → Type 0
-  TermsFit number mark sign out at =
-      (ts : Terms) × TermsAt symbol_words cells from ts × (count ts ≡ number) × (at + length (show_after mark sign ts) ≤ length out)
-
-  abbrev pub TermsPrinted : ℕ → ℕ → ℕ → List ℕ → ℕ → ℕ → ℕ → List ℕ → Type 0
-  TermsPrinted number mark sign out at end next after =
-      (ts : Terms) → TermsAt symbol_words cells from ts → count ts ≡ number → Walked out at from (show_after mark sign ts) (sizes ts) end next after
+  abbrev pub AppliedPrinted : ℕ → ℕ → Output → Output → List ℕ → Type 0
+  AppliedPrinted symbol sign out after others =
+      (ts : Terms) → ArgumentsAt symbol ts → Walked out cells (show_term sign (app symbol ts) []) (sizes ts) after others

@@ -1,68 +1,62 @@
 // Decimal numbers, digit by digit from the greatest weight.
-ghost use Rattle.std.specs.Prelude.{◌+◌, ◌<◌, ◌≤◌, ◌≡◌, [], ◌∷◌, length};
+// By methods and not by `Display`, whose clause says what is printed only where it gives `Ok`: a listing cannot fail.
+ghost use Rattle.std.specs.Prelude.{◌<◌, ◌≡◌, [], ◌∷◌};
 ghost use Rattle.rules.specs.Listing.{decimal};
 ghost use Rattle.listing.specs.Digits.{digit, digits_at, weight_at, weights};
-ghost use Rattle.listing.specs.Put.{Put};
+ghost use Rattle.listing.specs.Put.{Fits, Adds};
+
+use crate::output::Output;
 
 // The weight of a place, counted from the last: ten times that of the next.
-fn weight(place: usize) -> u32
+#[tactic(auto, using(crate::proofs::DigitLaws::power_weight))]
+fn weight(place: u32) -> u32
     requires { place < 5 }
     ensures { result ≡ weight_at place }
 {
-    let mut w = 1;
-    let mut i = 0;
-    while i < place {
-        w = 10 * w;
-        i += 1;
-    }
-    w
+    10u32.pow(place)
 }
 
-// Writes the digit of n at a weight, unless it is a leading zero.
-fn put_digit(out: &mut [u8], at: usize, n: u32, weight: u32) -> usize
-    requires { (0 < weight) × (at + length (digit weight n) ≤ length out.old) }
-    ensures { Put out.old at (digit weight n) result out.new }
-{
-    if n < weight {
-        if weight != 1 {
-            return at;
+impl Output<'_> {
+    // Writes the digit of n at a weight, unless it is a leading zero.
+    fn put_digit(&mut self, n: u32, weight: u32)
+        requires weight { 0 < weight }
+        requires room { Fits self.old (digit weight n) }
+        ensures { Adds self.old (digit weight n) self.new }
+    {
+        if n < weight && weight != 1 {
+            return;
+        }
+        self.put(&[b'0' + (n / weight % 10) as u8]);
+    }
+
+    // Writes the last five digits of n, without leading zeros where n has fewer.
+    fn put_five(&mut self, n: u32)
+        requires { Fits self.old (digits_at weights n) }
+        ensures { Adds self.old (digits_at weights n) self.new }
+    {
+        for place in (0..5).rev() {
+            self.put_digit(n, weight(place));
         }
     }
-    out[at] = 48 + (n / weight % 10) as u8;
-    at + 1
-}
 
-// Writes the last five digits of n, without leading zeros where n has fewer.
-fn put_five(out: &mut [u8], at: usize, n: u32) -> usize
-    requires { at + length (digits_at weights n) ≤ length out.old }
-    ensures { Put out.old at (digits_at weights n) result out.new }
-{
-    let mut p = at;
-    let mut places = 5;
-    while 0 < places {
-        places -= 1;
-        p = put_digit(out, p, n, weight(places));
+    // Writes n in decimal digits without leading zeros, zero as 0.
+    pub fn put_number(&mut self, n: u32)
+        requires { Fits self.old (decimal n []) }
+        ensures { Adds self.old (decimal n []) self.new }
+    {
+        if n < 100000 {
+            return self.put_five(n);
+        }
+        self.put_five(n / 100000);
+        self.put_five(n);
     }
-    p
-}
 
-// Writes n in decimal digits without leading zeros, zero as 0.
-pub fn put_number(out: &mut [u8], at: usize, n: u32) -> usize
-    requires { at + length (decimal n []) ≤ length out.old }
-    ensures { Put out.old at (decimal n []) result out.new }
-{
-    if n < 100000 {
-        return put_five(out, at, n);
+    // Writes a byte and then a number.
+    pub fn put_prefixed(&mut self, prefix: u8, n: u32)
+        requires { Fits self.old (prefix ∷ decimal n []) }
+        ensures { Adds self.old (prefix ∷ decimal n []) self.new }
+    {
+        self.put(&[prefix]);
+        self.put_number(n);
     }
-    let p = put_five(out, at, n / 100000);
-    put_five(out, p, n)
-}
-
-// Writes a byte and then a number.
-pub fn put_prefixed(out: &mut [u8], at: usize, prefix: u8, n: u32) -> usize
-    requires { at + length (prefix ∷ decimal n []) ≤ length out.old }
-    ensures { Put out.old at (prefix ∷ decimal n []) result out.new }
-{
-    out[at] = prefix;
-    put_number(out, at + 1, n)
 }

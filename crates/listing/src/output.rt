@@ -1,32 +1,48 @@
-// Words as bytes.
-ghost use Rattle.std.specs.Prelude.{◌≡◌, ◌+◌, ◌*◌, ◌/◌, ◌%◌, ◌≤◌, length};
+// The output that text is printed to.
+ghost use Rattle.std.specs.Prelude.{◌≡◌, ◌*◌, length};
 ghost use Rattle.rules.specs.Program.{bytes_from};
-ghost use Rattle.listing.specs.Put.{Put};
+ghost use Rattle.listing.specs.Put.{Fits, Adds};
 
-// Stores the bytes of words, low byte first, in `out` from `at` on, and returns the place after them.
-pub fn put_words(out: &mut [u8], at: usize, words: &[u16]) -> usize
-    requires { at + 2 * length words.now ≤ length out.old }
-    ensures { Put out.old at (bytes_from words.now) result out.new }
-{
-    let mut i = 0;
-    while i < words.len() {
-        let word = words[i];
-        let place = at + 2 * i;
-        out[place] = low(word);
-        out[place + 1] = high(word);
-        i += 1;
+// The bytes lent, and the place of the next one.
+// A lent slice, since nothing is allocated; std's `Cursor` and `Write` over one do not say what its bytes are in the end.
+#[derive(Drop)]
+pub struct Output<'a> {
+    pub bytes: &'a mut [u8],
+    pub at: usize,
+}
+
+impl<'a> Output<'a> {
+    // Nothing is written yet.
+    pub fn new(bytes: &'a mut [u8]) -> Output<'a>
+        ensures bytes { result.bytes.now ≡ bytes.old }
+        ensures same_reference { result.bytes.ghost_name ≡ bytes.entry.ghost_name }
+        ensures start { result.at ≡ 0 }
+    {
+        Output { bytes, at: 0 }
     }
-    at + 2 * i
 }
 
-fn low(word: u16) -> u8
-    ensures { result ≡ word % 256 }
-{
-    (word % 256) as u8
-}
+impl Output<'_> {
+    #[tactic(auto, using(words::proofs::Sets::put_sets))]
+    pub fn put(&mut self, text: &[u8])
+        requires { Fits self.old text.now }
+        ensures { Adds self.old text.now self.new }
+    {
+        let end = self.at + text.len();
+        let bytes = &mut *self.bytes;
+        bytes[self.at..end].copy_from_slice(text);
+        self.at = end;
+    }
 
-fn high(word: u16) -> u8
-    ensures { result ≡ word / 256 }
-{
-    (word / 256) as u8
+    // Writes the bytes of words, low byte first, and returns their number.
+    pub fn put_words(&mut self, words: &[u16]) -> usize
+        requires { Fits self.old (bytes_from words.now) }
+        ensures adds { Adds self.old (bytes_from words.now) self.new }
+        ensures number { result ≡ length (bytes_from words.now) }
+    {
+        for word in words {
+            self.put(&word.to_le_bytes());
+        }
+        2 * words.len()
+    }
 }

@@ -1,98 +1,48 @@
 // Terms, printed from the cells that they stand in.
-ghost use Rattle.listing.specs.Standing.{TermFits, TermPrinted, AppliedFits, AppliedPrinted, TermsFit, TermsPrinted};
+ghost use Rattle.std.specs.Prelude.{◌≡◌, ◌∷◌, ◌<◌, length};
+ghost use Rattle.listing.specs.Standing.{TermFits, TermPrinted, AppliedFits, AppliedPrinted};
 
-use crate::numbers::put_prefixed;
-use words::word;
+use crate::output::Output;
 
-// The places after what was printed and after the cells that were passed.
-#[derive(Drop)]
-pub struct Places {
-    pub at: usize,
-    pub from: usize,
+// Takes the first cell from the front.
+pub fn next(cells: &mut &[u16]) -> u16
+    requires { 0 < length cells.old.now }
+    ensures { cells.old.now ≡ result ∷ cells.new.now }
+{
+    let all: &[u16] = *cells;
+    *cells = &all[1..];
+    all[0]
 }
 
-// Prints the term whose cells begin at `from`: a variable as `sign` and its number, a functor as s and its number with its arguments in brackets.
-#[cycle(put_applied_put_term_put_terms)]
-pub fn put_term(
-    out: &mut [u8],
-    at: usize,
-    cells: &[u16],
-    from: usize,
-    symbols: &[u16],
-    sign: u8,
-) -> Places
-    requires { TermFits symbols.now cells.now from sign out.old at }
-    ensures { TermPrinted symbols.now cells.now from sign out.old at result.at result.from out.new }
+// Prints the term at the front of the cells, and passes them: a variable as `sign` and its number, a functor as s and its number with its arguments in brackets.
+#[cycle(put_applied_put_term)]
+pub fn put_term(out: &mut Output, cells: &mut &[u16], symbols: &[u16], sign: u8)
+    requires { TermFits symbols.now cells.old.now sign out.old }
+    ensures { TermPrinted symbols.now cells.old.now sign out.old out.new cells.new.now }
 {
-    let cell = word(cells, from);
-    let next = from + 1;
+    let cell = next(cells);
     if 32768 <= cell {
-        let end = put_prefixed(out, at, sign, (cell - 32768) as u32);
-        return Places {
-            at: end,
-            from: next,
-        };
+        return out.put_prefixed(sign, u32::from(cell - 32768));
     }
-    let arity = signature::arity(symbols, cell);
-    put_applied(out, at, cells, next, cell, arity, symbols, sign)
+    put_applied(out, cells, cell, symbols, sign);
 }
 
-// Prints a symbol as s and its number, and the arguments, as many as its arity, whose cells begin at `from`, in brackets.
-#[cycle(put_applied_put_term_put_terms)]
-pub fn put_applied(
-    out: &mut [u8],
-    at: usize,
-    cells: &[u16],
-    from: usize,
-    symbol: usize,
-    arity: usize,
-    symbols: &[u16],
-    sign: u8,
-) -> Places
-    requires { AppliedFits symbols.now cells.now from symbol arity sign out.old at }
-    ensures { AppliedPrinted symbols.now cells.now from symbol arity sign out.old at result.at result.from out.new }
+// Prints a symbol as s and its number, and the arguments, as many as its arity, whose cells are at the front, in brackets.
+#[cycle(put_applied_put_term)]
+pub fn put_applied(out: &mut Output, cells: &mut &[u16], symbol: u16, symbols: &[u16], sign: u8)
+    requires { AppliedFits symbols.now cells.old.now symbol sign out.old }
+    ensures { AppliedPrinted symbols.now cells.old.now symbol sign out.old out.new cells.new.now }
 {
-    let named = put_prefixed(out, at, b's', symbol as u32);
+    out.put_prefixed(b's', u32::from(symbol));
+    let arity = signature::arity(symbols, usize::from(symbol));
     if arity == 0 {
-        return Places { at: named, from };
+        return;
     }
-    let inner = put_terms(out, named, cells, from, arity, symbols, b'(', sign);
-    let end = inner.at;
-    out[end] = b')';
-    Places {
-        at: end + 1,
-        from: inner.from,
+    out.put(b"(");
+    put_term(out, cells, symbols, sign);
+    for _i in 1..arity {
+        out.put(b",");
+        put_term(out, cells, symbols, sign);
     }
-}
-
-// Prints so many terms, with `mark` in front of the first and a comma in front of each other one.
-#[cycle(put_applied_put_term_put_terms)]
-fn put_terms(
-    out: &mut [u8],
-    at: usize,
-    cells: &[u16],
-    from: usize,
-    number: usize,
-    symbols: &[u16],
-    mark: u8,
-    sign: u8,
-) -> Places
-    requires { TermsFit symbols.now cells.now from number mark sign out.old at }
-    ensures { TermsPrinted symbols.now cells.now from number mark sign out.old at result.at result.from out.new }
-{
-    if number == 0 {
-        return Places { at, from };
-    }
-    out[at] = mark;
-    let first = put_term(out, at + 1, cells, from, symbols, sign);
-    put_terms(
-        out,
-        first.at,
-        cells,
-        first.from,
-        number - 1,
-        symbols,
-        b',',
-        sign,
-    )
+    out.put(b")");
 }

@@ -3,7 +3,7 @@
 
 ghost use Rattle.std.specs.Prelude.{◌≤◌};
 
-use listing::numbers;
+use listing::output::Output;
 use std::io;
 
 fn main(rt: HostRuntime) -> io::Result<()> {
@@ -20,7 +20,7 @@ fn main(rt: HostRuntime) -> io::Result<()> {
 fn line(rt: &impl Print, n: u32) -> io::Result<()> {
     let mut buffer = [0u8; 11];
     let end = digits(&mut buffer, n);
-    buffer[end] = 10;
+    buffer[end] = b'\n';
     rt.write_all(&buffer[..end + 1])
 }
 
@@ -28,5 +28,7 @@ fn line(rt: &impl Print, n: u32) -> io::Result<()> {
 fn digits(buffer: &mut [u8; 11], n: u32) -> usize
     ensures { result ≤ 10 }
 {
-    numbers::put_number(buffer, 0, n)
+    let mut out = Output::new(buffer);
+    out.put_number(n);
+    out.at
 }

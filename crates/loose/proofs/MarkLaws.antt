@@ -186,13 +186,6 @@ after-bounds : (stamp m : ℕ) (inside : Bool) → m < stamp + 2 → (stamp ≤ 
 after-bounds stamp m true h = (omega arith, omega arith)
 after-bounds stamp m false h = (omega arith, omega arith)
 
--- The mark as the code finds it.
-pub mark-inside : (stamp m : ℕ) (inside : Bool) → inside ≡ true → stamp + 1 ≡ mark_after stamp inside m
-mark-inside stamp m inside e = rw e
-
-pub mark-outside : (stamp m n : ℕ) (inside : Bool) → inside ≡ false → n ≡ max stamp m → n ≡ mark_after stamp inside m
-mark-outside stamp m n inside e q = rw e q
-
 -- A mark that is raised to `stamp` says nothing of positive literals.
 raised-same : (stamp m : ℕ) → eqb (max stamp m) (stamp + 1) ≡ eqb m (stamp + 1)
 raised-same stamp m = eqb_same (max stamp m) (stamp + 1) m (stamp + 1) (λ e. omega arith) (λ e. omega arith)

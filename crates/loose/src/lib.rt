@@ -11,7 +11,7 @@ ghost use Rattle.clauses.specs.Clauses.{Opens, ClauseAt};
 ghost use Rattle.loose.specs.Marks.{Below};
 ghost use Rattle.loose.specs.Checks.{first_loose};
 
-use deck::{Checked, Refusal, parts};
+use deck::{Refusal, parts};
 
 mod row;
 
@@ -33,12 +33,10 @@ pub fn clauses_tight(deck: &[u16]) -> bool
 {
     let mut marks = [0u16; 1024];
     let count = parts::clause_count(deck);
-    let mut i = 0;
-    while i < count {
+    for i in 0..count {
         if !clause_tight(deck, i, &mut marks) {
             return false;
         }
-        i += 1;
     }
     true
 }
@@ -53,20 +51,20 @@ pub fn query_tight(deck: &[u16], query: &[u16]) -> bool
 }
 
 // Refusal 13 unless the clauses are tight, then 14 unless the query is.
-fn first_loose(clauses: bool, query: bool) -> Checked
+fn first_loose(clauses: bool, query: bool) -> Result<(), Refusal>
     ensures { number_of result ≡ checked_number (first_loose clauses query) }
 {
     if !clauses {
-        return Checked::Refused(Refusal::LooseClause);
+        return Err(Refusal::LooseClause);
     }
     if !query {
-        return Checked::Refused(Refusal::LooseQuery);
+        return Err(Refusal::LooseQuery);
     }
-    Checked::Accepted
+    Ok(())
 }
 
 // Refusal 13 of an opened deck, then 14 of a query that was read.
-pub fn check(deck: &[u16], query: &[u16]) -> Checked
+pub fn check(deck: &[u16], query: &[u16]) -> Result<(), Refusal>
     requires { Opens deck.now }
     ensures { (d : Deck) (q : List Literal) → open_deck deck.now ≡ accepted d → read_query d query.now ≡ accepted q → number_of result ≡ checked_number (check_tight_query d q) }
 {
@@ -74,11 +72,9 @@ pub fn check(deck: &[u16], query: &[u16]) -> Checked
 }
 
 // CHECKING A QUERY. Refusals 1 to 5 of the deck, 6 and 7 of the query, then 13 of the deck and 14 of the query.
-pub fn check_query(deck: &[u16], query: &[u16]) -> Checked
+pub fn check_query(deck: &[u16], query: &[u16]) -> Result<(), Refusal>
     ensures { number_of result ≡ checked_number (check_query deck.now query.now) }
 {
-    match deck::check(deck, query) {
-        Checked::Refused(why) => Checked::Refused(why),
-        Checked::Accepted => check(deck, query),
-    }
+    deck::check(deck, query)?;
+    check(deck, query)
 }

@@ -22,17 +22,15 @@ fn mark_after(stamp: u16, inside: bool, mark: u16) -> u16
     requires { stamp < 65535 }
     ensures { result ≡ mark_after stamp inside mark }
 {
-    if inside {
-        return stamp + 1;
-    }
-    if mark < stamp { stamp } else { mark }
+    if inside { stamp + 1 } else { stamp.max(mark) }
 }
 
 // Whether a variable waits for a positive literal, as a number.
+#[tactic(auto, unfolding(crate::specs::Marks::waiting))]
 fn waits(stamp: u16, mark: u16) -> usize
     ensures { result ≡ waiting stamp mark }
 {
-    if mark == stamp { 1 } else { 0 }
+    usize::from(mark == stamp)
 }
 
 // The marks of earlier rows are below `stamp`, and those of this one below `stamp + 2`.
@@ -42,21 +40,15 @@ pub fn tight(symbols: &[u16], cells: &[u16], marks: &mut [u16], stamp: u16) -> b
 {
     let mut inside = false;
     let mut count = 0;
-    let mut at = 0;
-    while at < cells.len() {
-        let kind = kinds::read(symbols, cells[at]);
-        match kind {
+    for cell in cells {
+        match kinds::read(symbols, *cell) {
             Kind::Variable(v) => {
                 let old = marks[v];
                 let new = mark_after(stamp, inside, old);
                 marks[v] = new;
                 count = count + waits(stamp, new) - waits(stamp, old);
-                at += 1;
             }
-            _ => {
-                inside = inside_after(kind, inside);
-                at += 1;
-            }
+            kind => inside = inside_after(kind, inside),
         }
     }
     count == 0

@@ -8,6 +8,7 @@ use native.Mathlib.Decide.{ℕ_discrete}
 use native.Mathlib.Omega.{arith}
 use native.Mathlib.Numerals.{add-one}
 use lib.ListN.{length, get_or, take, set, length-set}
+use Rattle.std.specs.Prelude.{Ok, Err}
 use lib.Seq.{take-suc-set, get_or-set_same, get_or-set_other}
 use Rattle.rules.specs.Terms.{Term, var, occ, sub}
 use Rattle.rules.specs.Unification.{Substitution, done, bind, apply}
@@ -15,7 +16,7 @@ use Rattle.rules.proofs.TermLaws.{join, ite-yes, ite-no, sub_same, sub-other, su
 use Rattle.matching.specs.Cells.{term_at}
 use Rattle.matching.specs.Bindings.{elims_after, elims, value, later, unbound, Good, Free, Final, State, Checking, Occurs, Blank, Trailed, Ready}
 use Rattle.matching.specs.Outcomes.{eliminated, Ran}
-use Rattle.matching.specs.declared.unify.Outcome.TheVariants.{Unified, Failed}
+use Rattle.matching.specs.declared.unify.Failure.TheVariants.{Failed}
 use Rattle.matching.proofs.SeenLaws.{open-var}
 use Rattle.matching.proofs.TrailLaws.{absent, later-here, later-there, later-none, later-in, later-out, later-le}
 
@@ -182,7 +183,7 @@ module _ {ar cells bs trail : List ℕ} {n : ℕ} (g : Good ar cells bs trail n)
 
 -- the equation between a free variable v and the term at p, after the occurs check
 module _ {ar cells bs trail marks : List ℕ} {n v p : ℕ} (c : Checking ar cells bs trail n v marks) (u : Free bs v) (f : Final cells bs p) where
-  pub eliminate-fails : (rest : ℕ) → Occurs (occ v (value ar cells bs trail n p)) true → Ran ar cells bs trail n (eliminated v (value ar cells bs trail n p)) (suc rest) bs trail marks (Failed n rest)
+  pub eliminate-fails : (rest : ℕ) → Occurs (occ v (value ar cells bs trail n p)) true → Ran ar cells bs trail n (eliminated v (value ar cells bs trail n p)) (suc rest) bs trail marks n (Err (Failed rest))
   unfolding eliminated
   eliminate-fails rest o = record { state = c.state; tells = (1, ite-no (ℕ_discrete (occ v (value ar cells bs trail n p)) 0) _ _ (λ e. omega (arith, o.if-so refl)), omega arith) }
 
@@ -196,7 +197,7 @@ module _ {ar cells bs trail marks : List ℕ} {n v p : ℕ} (c : Checking ar cel
         ],
       )
 
-  pub eliminate-binds : (rest : ℕ) → Occurs (occ v (value ar cells bs trail n p)) false → Ran ar cells bs trail n (eliminated v (value ar cells bs trail n p)) (suc rest) (set bs v p) (set trail n v) marks (Unified (n + 1) rest)
+  pub eliminate-binds : (rest : ℕ) → Occurs (occ v (value ar cells bs trail n p)) false → Ran ar cells bs trail n (eliminated v (value ar cells bs trail n p)) (suc rest) (set bs v p) (set trail n v) marks (n + 1) (Ok rest)
   unfolding eliminated
   eliminate-binds rest o =
       let away : occ v (value ar cells bs trail n p) ≡ 0 = o.if-not refl in

@@ -12,7 +12,7 @@ use Rattle.rules.specs.Unification.{Substitution, apply, applys}
 use Rattle.rules.proofs.TermLaws.{ite-yes, ite-no, applys-cons, apply-app}
 use Rattle.matching.specs.Taking.{take_t}
 use Rattle.matching.specs.Cells.{args_of, from, term_at, others}
-use Rattle.matching.specs.Bindings.{elims, value, seen, later, Good, Free, Final, Resolved}
+use Rattle.matching.specs.Bindings.{elims, value, seen, later, Good, Free, Final, BoundTo, Resolved}
 use Rattle.matching.proofs.CellLaws.{from-inside, from_cons, term_at-functor, term_at-var}
 
 -- how far a cell is from the end of its chain
@@ -34,22 +34,25 @@ pub record Resolving (ar cells bs trail : List ℕ) (n p at : ℕ) : Type 0 wher
 
 -- the end of a chain
 module _ {ar cells bs trail : List ℕ} {n p at : ℕ} (r : Resolving ar cells bs trail n p at) where
-  pub resolved-functor : get_or cells at 0 < 32768 → Resolved ar cells bs trail n p at
-  resolved-functor l = record { final = record { inside = r.inside; open' = λ k. absurd (omega arith) }; same = r.same }
-
-  pub resolved-free : get_or bs (get_or cells at 0 - 32768) 0 ≡ 65535 → Resolved ar cells bs trail n p at
-  resolved-free b = record { final = record { inside = r.inside; open' = λ _. b }; same = r.same }
+  pub resolved : (32768 ≤ get_or cells at 0 → get_or bs (get_or cells at 0 - 32768) 0 ≡ 65535) → Resolved ar cells bs trail n p at
+  resolved h = record { final = record { inside = r.inside; open' = h }; same = r.same }
 
 -- following a bound variable
-module _ {ar cells bs trail : List ℕ} {n p at : ℕ} (g : Good ar cells bs trail n) (r : Resolving ar cells bs trail n p at) (l : 32768 ≤ get_or cells at 0) (b : get_or bs (get_or cells at 0 - 32768) 0 ≡ 65535 → ⊥) where
-  pub resolving-more : Resolving ar cells bs trail n p (get_or bs (get_or cells at 0 - 32768) 0)
-  resolving-more = record {
+module _ {ar cells bs trail : List ℕ} {n p at : ℕ} (g : Good ar cells bs trail n) (r : Resolving ar cells bs trail n p at) {place : ℕ} (to : BoundTo bs (get_or cells at 0) place) where
+  abbrev l : 32768 ≤ get_or cells at 0
+  l = to.variable
+
+  abbrev b : get_or bs (get_or cells at 0 - 32768) 0 ≡ 65535 → ⊥
+  b = to.taken
+
+  pub resolving-more : Resolving ar cells bs trail n p place
+  resolving-more = rw to.is (record {
     inside = g.within _ (g.named at r.inside l) b;
     same = sym (g.held _ (g.named at r.inside l) b) ∙ ap (apply (elims ar cells bs trail n)) (sym (term_at-var ar cells at r.inside l)) ∙ r.same;
-  }
+  })
 
-  pub resolving-less : rank (take n trail) (get_or cells (get_or bs (get_or cells at 0 - 32768) 0) 0) < rank (take n trail) (get_or cells at 0)
-  resolving-less = cases (dec_lt (get_or cells (get_or bs (get_or cells at 0 - 32768) 0) 0) 32768)
+  pub resolving-less : rank (take n trail) (get_or cells place 0) < rank (take n trail) (get_or cells at 0)
+  resolving-less = rw to.is (cases (dec_lt (get_or cells (get_or bs (get_or cells at 0 - 32768) 0) 0) 32768))
     where
       q : ℕ
       q = get_or cells (get_or bs (get_or cells at 0 - 32768) 0) 0

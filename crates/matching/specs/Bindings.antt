@@ -52,6 +52,12 @@ pub record Good (ar cells bs trail : List ℕ) (n : ℕ) : Type 0 where
   pub held : (v : ℕ) → v < length bs → (get_or bs v 0 ≡ 65535 → ⊥) → apply (elims ar cells bs trail n) (var v) ≡ value ar cells bs trail n (get_or bs v 0)
   pub forward : (v : ℕ) → v < length bs → (get_or bs v 0 ≡ 65535 → ⊥) → 32768 ≤ get_or cells (get_or bs v 0) 0 → later (get_or cells (get_or bs v 0) 0 - 32768) (take n trail) < later v (take n trail)
 
+-- the variable of a cell was replaced by the term at `place`
+pub record BoundTo (bs : List ℕ) (cell place : ℕ) : Type 0 where
+  pub variable : 32768 ≤ cell
+  pub taken : get_or bs (cell - 32768) 0 ≡ 65535 → ⊥
+  pub is : place ≡ get_or bs (cell - 32768) 0
+
 -- a free variable; a place at which no bound variable stands; the place r of that kind that has the value of p
 pub record Free (bs : List ℕ) (v : ℕ) : Type 0 where
   pub inside : v < length bs

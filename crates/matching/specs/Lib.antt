@@ -1,5 +1,6 @@
 pub mod Tables
 pub mod Taking
+pub mod TermCode
 pub mod Cells
 pub mod Bindings
 pub mod Outcomes

@@ -1,51 +1,86 @@
-// Following bindings, and taking them back.
-ghost use Rattle.std.specs.Prelude.{◌≡◌, ℕ, ◌<◌, length, get_or};
-ghost use Rattle.matching.specs.Bindings.{Good, Resolved, Trailed, Blank};
-ghost use Rattle.matching.specs.Tables.{bind_of, trail_of, marks_of};
+// The table of a matching: what each variable was replaced by, and taking that back.
+ghost use Rattle.std.specs.Prelude.{◌≡◌, ◌-◌, ◌≤◌, ◌<◌, length, get_or, IsNone, IfSome};
+ghost use Rattle.matching.specs.Bindings.{Good, BoundTo, Resolved, Trailed, Blank};
+ghost use Rattle.matching.specs.TermCode.{term_code};
+ghost use Rattle.std.proofs.Props.{props};
 
-// Makes a table of zeros one in which no variable is bound.
-pub fn clear(table: &mut [u16])
-    requires { (length table.old ≡ 3840) × ((w : ℕ) → get_or table.old w 0 ≡ 0) }
-    ensures { Blank (bind_of table.new) (marks_of table.new) }
-{
-    let mut i = 0;
-    while i < 1280 {
-        table[i] = 65535;
-        i += 1;
+use super::cells::FlatTerms;
+
+// For each of 1,280 variables: the place of the term that it was replaced by, or 65535, since an `Option<u16>` takes twice the room; and
+// the mark of the occurs check. The first `bound` entries of the trail are the variables replaced, in order.
+#[derive(Drop)]
+pub struct Table {
+    pub bind: [u16; 1280],
+    pub trail: [u16; 1280],
+    pub marks: [u16; 1280],
+    pub bound: usize,
+    ghost sized: { (length bind ≡ 1280) × (length trail ≡ 1280) × (length marks ≡ 1280) },
+}
+
+impl Table {
+    // No variable is bound.
+    pub fn new() -> Self
+        ensures blank { Blank result.bind result.marks }
+        ensures empty { result.bound ≡ 0 }
+    {
+        Table {
+            bind: [65535; 1280],
+            trail: [0; 1280],
+            marks: [0; 1280],
+            bound: 0,
+        }
+    }
+
+    // The place of the term that the variable of a cell was replaced by.
+    pub fn binding(&self, cell: u16) -> Option<usize>
+        requires { 32768 ≤ cell → cell - 32768 < length self.now.bind }
+        ensures none { IsNone result → 32768 ≤ cell → get_or self.now.bind (cell - 32768) 0 ≡ 65535 }
+        ensures some { IfSome result (BoundTo self.now.bind cell) }
+    {
+        if cell < 32768 {
+            return None;
+        }
+        let place = self.bind[usize::from(cell - 32768)];
+        if place == 65535 {
+            None
+        } else {
+            Some(usize::from(place))
+        }
+    }
+
+    // Takes the bindings of the trail back, with their marks.
+    pub fn undo(&mut self)
+        requires { Trailed self.old.bind self.old.trail self.old.marks self.old.bound }
+        ensures blank { Blank self.new.bind self.new.marks }
+        ensures empty { self.new.bound ≡ 0 }
+    {
+        for i in (0..self.bound).rev() {
+            let v = self.trail[i] as usize;
+            self.bind[v] = 65535;
+            self.marks[v] = 0;
+        }
+        self.bound = 0;
     }
 }
 
-// The place of the term at p, or of the term that the variable there was replaced by in the end.
-// `symbols` and `n` are there for the contract and the measure.
-pub fn resolve(cells: &[u16], symbols: &[u16], table: &[u16], n: usize, p: usize) -> usize
-    requires good { Good symbols.now cells.now (bind_of table.now) (trail_of table.now) n }
-    requires p_in_bounds { p < length cells.now }
-    ensures { Resolved symbols.now cells.now (bind_of table.now) (trail_of table.now) n p result }
-{
-    let mut at = p;
-    loop {
-        let c = cells[at] as usize;
-        if c < 32768 {
-            return at;
-        }
-        let b = table[c - 32768] as usize;
-        if b == 65535 {
-            return at;
-        }
-        at = b;
-    }
+// Terms, and a table of bindings of their variables that is only read.
+#[derive(Clone, Copy)]
+pub struct Bound<'a> {
+    pub terms: FlatTerms<'a>,
+    pub table: &'a Table,
+    ghost good: { Good terms.symbols.now terms.cells.now table.now.bind table.now.trail table.now.bound } by { Prim.hlevel (props, term_code) },
 }
 
-// Takes the bindings of the first n variables of the trail back, with their marks.
-pub fn undo(table: &mut [u16], n: usize)
-    requires { Trailed (bind_of table.old) (trail_of table.old) (marks_of table.old) n }
-    ensures { Blank (bind_of table.new) (marks_of table.new) }
-{
-    let mut left = n;
-    while 0 < left {
-        left -= 1;
-        let v = table[1280 + left] as usize;
-        table[v] = 65535;
-        table[2560 + v] = 0;
+impl Bound<'_> {
+    // The place of the term at p, or of the term that the variable there was replaced by in the end.
+    pub fn resolve(&self, p: usize) -> usize
+        requires { p < length self.now.terms.cells.now }
+        ensures { Resolved self.now.terms.symbols.now self.now.terms.cells.now self.now.table.now.bind self.now.table.now.trail self.now.table.now.bound p result }
+    {
+        let mut at = p;
+        while let Some(place) = self.table.binding(self.terms.cells[at]) {
+            at = place;
+        }
+        at
     }
 }

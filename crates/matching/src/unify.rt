@@ -1,138 +1,123 @@
 // Unification, which document 01 calls matching: equations between terms, from left to right. The
 // recursion goes down and along arguments, so its depth is at most twice the number of cells. Each
 // equation takes 1 from what is left, and where nothing is left the unification is broken off.
-ghost use Rattle.std.specs.Prelude.{◌≤◌, length};
+ghost use Rattle.std.specs.Prelude.{◌≡◌, ◌≤◌, length};
 ghost use Rattle.rules.specs.Terms.{count};
 ghost use Rattle.rules.specs.Unification.{unify};
 ghost use Rattle.matching.specs.Taking.{take_t};
 ghost use Rattle.matching.specs.Cells.{from};
 ghost use Rattle.matching.specs.Bindings.{State, Paired, Free, Final, Ready, Blank};
-ghost use Rattle.matching.specs.Tables.{bind_of, trail_of, marks_of};
 ghost use Rattle.matching.specs.Outcomes.{RanVariable, RanPair, RanPairs, Ended};
 
-use super::bindings::resolve;
-use super::cells::{after_first, arity_of};
+use super::bindings::{Bound, Table};
+use super::cells::{FlatTerms, arity_of};
 use super::occurs::occurs;
 
-// How a unification ended, with the number of variables replaced, and what is left after its equations,
-// the failing one included. Or it was broken off, since it takes more equations than were left.
-#[derive(Drop)]
-pub enum Outcome {
-    Unified(usize, u32),
-    Failed(usize, u32),
-    Broken(usize),
+// Why terms are not unified: they differ, with what is left after the equations, the failing one included. Or the unification was broken
+// off, since it takes more equations than were left.
+#[derive(Clone, Copy, Debug, PartialEq, Eq)]
+pub enum Failure {
+    Failed(u32),
+    Broken,
 }
 
 // The equation between the free variable v and the term at p, which is not that variable. `rest` is left after it.
 fn eliminate(
-    cells: &[u16],
-    symbols: &[u16],
-    table: &mut [u16],
-    n: usize,
+    terms: &FlatTerms,
+    table: &mut Table,
     rest: u32,
     v: usize,
     p: usize,
-) -> Outcome
-    requires state { State symbols.now cells.now (bind_of table.old) (trail_of table.old) (marks_of table.old) n n }
-    requires free { Free (bind_of table.old) v }
-    requires fact { Final cells.now (bind_of table.old) p }
-    ensures { RanVariable symbols.now cells.now (bind_of table.old) (trail_of table.old) n v p rest (bind_of table.new) (trail_of table.new) (marks_of table.new) result }
+) -> Result<u32, Failure>
+    requires state { State terms.now.symbols.now terms.now.cells.now table.old.bind table.old.trail table.old.marks table.old.bound table.old.bound }
+    requires free { Free table.old.bind v }
+    requires final_place { Final terms.now.cells.now table.old.bind p }
+    ensures { RanVariable terms.now.symbols.now terms.now.cells.now table.old.bind table.old.trail table.old.bound v p rest table.new.bind table.new.trail table.new.marks table.new.bound result }
 {
-    let found = occurs(cells, symbols, table, n, v, p);
+    let found = occurs(terms, table, v, p);
     if found {
-        return Outcome::Failed(n, rest);
+        return Err(Failure::Failed(rest));
     }
-    table[v] = p as u16;
-    table[1280 + n] = v as u16;
-    Outcome::Unified(n + 1, rest)
+    table.bind[v] = p as u16;
+    table.trail[table.bound] = v as u16;
+    table.bound += 1;
+    Ok(rest)
 }
 
 // The equation between the terms at a and b, at neither of which stands a variable that was replaced.
 #[cycle(pair_pairs)]
-fn pair(
-    cells: &[u16],
-    symbols: &[u16],
-    table: &mut [u16],
-    n: usize,
-    left: u32,
-    a: usize,
-    b: usize,
-) -> Outcome
-    requires { Paired symbols.now cells.now (bind_of table.old) (trail_of table.old) (marks_of table.old) n a b }
-    ensures { RanPair symbols.now cells.now (bind_of table.old) (trail_of table.old) n a b left (bind_of table.new) (trail_of table.new) (marks_of table.new) result }
+fn pair(terms: &FlatTerms, table: &mut Table, left: u32, a: usize, b: usize) -> Result<u32, Failure>
+    requires { Paired terms.now.symbols.now terms.now.cells.now table.old.bind table.old.trail table.old.marks table.old.bound a b }
+    ensures { RanPair terms.now.symbols.now terms.now.cells.now table.old.bind table.old.trail table.old.bound a b left table.new.bind table.new.trail table.new.marks table.new.bound result }
 {
     if left == 0 {
-        return Outcome::Broken(n);
+        return Err(Failure::Broken);
     }
     let rest = left - 1;
-    let c = cells[a] as usize;
-    let d = cells[b] as usize;
+    let c = terms.cells[a] as usize;
+    let d = terms.cells[b] as usize;
     if c >= 32768 {
         if c == d {
-            return Outcome::Unified(n, rest);
+            return Ok(rest);
         }
-        return eliminate(cells, symbols, table, n, rest, c - 32768, b);
+        return eliminate(terms, table, rest, c - 32768, b);
     }
     if d >= 32768 {
-        return eliminate(cells, symbols, table, n, rest, d - 32768, a);
+        return eliminate(terms, table, rest, d - 32768, a);
     }
     if c != d {
-        return Outcome::Failed(n, rest);
+        return Err(Failure::Failed(rest));
     }
-    let arity = arity_of(symbols, c);
-    pairs(cells, symbols, table, n, rest, a + 1, b + 1, arity)
+    let arity = arity_of(terms.symbols, c);
+    pairs(terms, table, rest, a + 1, b + 1, arity)
 }
 
 // The equations between the `number` terms at p and those at q, in order.
 #[cycle(pair_pairs)]
 fn pairs(
-    cells: &[u16],
-    symbols: &[u16],
-    table: &mut [u16],
-    n: usize,
+    terms: &FlatTerms,
+    table: &mut Table,
     left: u32,
     p: usize,
     q: usize,
     number: usize,
-) -> Outcome
-    requires state { State symbols.now cells.now (bind_of table.old) (trail_of table.old) (marks_of table.old) n n }
-    requires number_bound { number ≤ count (from symbols.now cells.now p) }
-    requires number_bound_2 { number ≤ count (from symbols.now cells.now q) }
-    ensures { RanPairs symbols.now cells.now (bind_of table.old) (trail_of table.old) n p q number left (bind_of table.new) (trail_of table.new) (marks_of table.new) result }
+) -> Result<u32, Failure>
+    requires state { State terms.now.symbols.now terms.now.cells.now table.old.bind table.old.trail table.old.marks table.old.bound table.old.bound }
+    requires left_bound { number ≤ count (from terms.now.symbols.now terms.now.cells.now p) }
+    requires right_bound { number ≤ count (from terms.now.symbols.now terms.now.cells.now q) }
+    ensures { RanPairs terms.now.symbols.now terms.now.cells.now table.old.bind table.old.trail table.old.bound p q number left table.new.bind table.new.trail table.new.marks table.new.bound result }
 {
     if number == 0 {
-        return Outcome::Unified(n, left);
+        return Ok(left);
     }
-    let a = resolve(cells, symbols, table, n, p);
-    let b = resolve(cells, symbols, table, n, q);
-    let first = pair(cells, symbols, table, n, left, a, b);
-    match first {
-        Outcome::Unified(m, l) => {
-            let p_next = after_first(cells, symbols, p, number);
-            let q_next = after_first(cells, symbols, q, number);
-            pairs(cells, symbols, table, m, l, p_next, q_next, number - 1)
-        }
-        Outcome::Failed(m, l) => Outcome::Failed(m, l),
-        Outcome::Broken(m) => Outcome::Broken(m),
-    }
+    let bound = Bound {
+        terms: *terms,
+        table,
+    };
+    let a = bound.resolve(p);
+    let b = bound.resolve(q);
+    let rest = pair(terms, table, left, a, b)?;
+    let p_next = terms.after_first(p, number);
+    let q_next = terms.after_first(q, number);
+    pairs(terms, table, rest, p_next, q_next, number - 1)
 }
 
 // Unifies the `number` terms at p with those at q, with at most `left` equations. The bindings stand for
 // the substitution after. What this binds and marks, `undo` takes back.
 pub fn unify_terms(
-    cells: &[u16],
-    symbols: &[u16],
-    table: &mut [u16],
+    terms: &FlatTerms,
+    table: &mut Table,
     left: u32,
     p: usize,
     q: usize,
     number: usize,
-) -> Outcome
-    requires ready { Ready symbols.now cells.now (length (bind_of table.old)) (length (trail_of table.old)) (length (marks_of table.old)) }
-    requires blank { Blank (bind_of table.old) (marks_of table.old) }
-    requires number_bound { number ≤ count (from symbols.now cells.now p) }
-    requires number_bound_2 { number ≤ count (from symbols.now cells.now q) }
-    ensures { Ended symbols.now cells.now (unify (take_t number (from symbols.now cells.now p)) (take_t number (from symbols.now cells.now q))) left (bind_of table.new) (trail_of table.new) (marks_of table.new) result }
+) -> Result<u32, Failure>
+    requires ready { Ready terms.now.symbols.now terms.now.cells.now (length table.old.bind) (length table.old.trail) (length table.old.marks) }
+    requires blank { Blank table.old.bind table.old.marks }
+    requires empty { table.old.bound ≡ 0 }
+    requires left_bound { number ≤ count (from terms.now.symbols.now terms.now.cells.now p) }
+    requires right_bound { number ≤ count (from terms.now.symbols.now terms.now.cells.now q) }
+    ensures { Ended terms.now.symbols.now terms.now.cells.now (unify (take_t number (from terms.now.symbols.now terms.now.cells.now p)) (take_t number (from terms.now.symbols.now terms.now.cells.now q))) left table.new.bind table.new.trail table.new.marks table.new.bound result }
 {
-    pairs(cells, symbols, table, 0, left, p, q, number)
+    pairs(terms, table, left, p, q, number)
 }

@@ -1,18 +1,14 @@
 -- The arities of a readable text are at most 15.
-use Prim.Native.Nat.{ℕ, zero, suc, ◌-◌, ◌≤◌, ◌%◌}
-use mathlib.Core.Path.{◌≡◌, refl, ap, sym, ◌∙◌, subst}
-use mathlib.Core.Bool.{Bool, true, false, and-eq-true_iff, false≢true}
-use mathlib.Core.Option.{none, some, none-ne-some, some-injective}
-use mathlib.Core.List.{List, [], ◌∷◌}
-use native.Mathlib.Omega.{arith}
-use lib.ListN.{length, get_elem?}
-use lib.Dec.{leb}
+use Rattle.std.proofs.Common.{◌≡◌, ℕ, zero, suc, ◌-◌, ◌≤◌, ◌%◌, Bool, true, false, List, [], ◌∷◌, length, leb, refl, ap, sym, ◌∙◌, subst, arith}
+use mathlib.Core.Bool.{and-eq-true_iff, false≢true}
+use Rattle.std.proofs.Math.Option.{none, some, none-ne-some, some-injective}
+use Rattle.std.proofs.Math.ListN.{get_elem?}
 use borrow.Author.Tests.{eqb-true, leb-true}
 use Rattle.rules.specs.Syntax.{Symbol, functor, predicate}
-use Rattle.text_rules.specs.TextTokens.{name, number, kind_number, Class, no_class, space, letter, zero_digit, digit, underscore, colon, minus, mark, class_number, class_of, is_class, numeral, value, Token, at_most, number_token, variable_token, implies_token, token_from, end_token, tokens}
+use Rattle.text_rules.specs.TextTokens.{Kind, name, number, kind_number, Class, no_class, space, letter, zero_digit, digit, underscore, colon, minus, mark, class_of, is_class, numeral, value, Token, at_most, number_token, variable_token, implies_token, token_from, end_token, tokens}
 use Rattle.text_rules.specs.TextGrammar.{is, is_key, same_bytes, fn_text, item, unread}
 use Rattle.text_rules.specs.TextWords.{symbol_from, token_at, declares, declaration, declarations, Declaration, arity}
-use Rattle.text.proofs.ClassLaws.{mark-range}
+use Rattle.text.proofs.TokenLaws.{mark-kinds}
 use Rattle.rules.specs.Decks.{write_symbol}
 use Rattle.text_rules.specs.Text.{text_declarations}
 use Rattle.naming.proofs.FiveLaws.{declared-first, declared-none, five-third, five-readable}
@@ -45,7 +41,7 @@ module _ (b : ℕ) (bs : List ℕ) where
       go true q = let z : ◌≡◌ {A = Bool} false true = rw (q, implies_token) at e in absurd (false≢true z)
       go false q = let z : ◌≡◌ {A = Bool} false true = rw (q, implies_token) at e in absurd (false≢true z)
 
-  small-from : (c : Class) → (16 ≤ class_number c → 22 ≤ class_number c) → is number (token_from c b bs) ≡ true → value 0 (token_from c b bs).bytes ≤ 15
+  small-from : (c : Class) → ((k : Kind) → c ≡ mark k → 6 ≤ kind_number k) → is number (token_from c b bs) ≡ true → value 0 (token_from c b bs).bytes ≤ 15
   unfolding token_from
   small-from no_class m e = absurd (false≢true e)
   small-from space m e = absurd (false≢true e)
@@ -55,7 +51,7 @@ module _ (b : ℕ) (bs : List ℕ) where
   small-from underscore m e = absurd (no-variable (numeral bs) (length (b ∷ bs)) e)
   small-from colon m e = absurd (no-implies bs (length (b ∷ bs)) e)
   small-from minus m e = absurd (false≢true e)
-  small-from (mark k) m e = let q = eqb-true 3 (kind_number k) e in absurd (omega (arith, m (omega arith)))
+  small-from (mark k) m e = let q = eqb-true 3 (kind_number k) e in absurd (omega (arith, m k refl))
 
 pub number_small : (xs : List ℕ) (t : Token) (ts : List Token) → tokens 0 xs ≡ t ∷ ts → is number t ≡ true → value 0 t.bytes ≤ 15
 unfolding tokens
@@ -67,7 +63,7 @@ number_small (b ∷ bs) t ts e q = go (is_class space b) refl (number_small bs t
     go false f r =
         let g : token_from (class_of b) b bs ∷ tokens (length (token_from (class_of b) b bs).bytes - 1) bs ≡ t ∷ ts = rw (f, tokens) at e in
         let h : token_from (class_of b) b bs ≡ t = ap (λ l. token_at l 0) g in
-        subst (λ x. value 0 x.bytes ≤ 15) h (small-from b bs (class_of b) (mark-range b) (ap (is number) h ∙ q))
+        subst (λ x. value 0 x.bytes ≤ 15) h (small-from b bs (class_of b) (mark-kinds b) (ap (is number) h ∙ q))
 
 -- All numbers of a text, and all arities of its declarations.
 abbrev Small : List Token → Type 0

@@ -1,16 +1,15 @@
 -- What is found in the table is the number of the rules.
-use Prim.Native.Nat.{ℕ, zero, suc, ◌+◌, ◌-◌, ◌<◌}
-use mathlib.Core.Path.{◌≡◌, refl, ap, sym, ◌∙◌}
-use mathlib.Core.Bool.{Bool, true, false}
-use mathlib.Core.Option.{Option, none, some, none-ne-some, some-injective}
-use mathlib.Core.List.{List, [], ◌∷◌}
-use native.Mathlib.Omega.{arith}
-use lib.ListN.{length, get_elem?}
+use Rattle.std.proofs.Common.{◌≡◌, ℕ, zero, suc, ◌+◌, ◌<◌, Bool, true, false, List, [], ◌∷◌, length, refl, ap, sym, ◌∙◌, arith}
+use Rattle.std.specs.Prelude.{Option as Code, Some, None}
+use Rattle.std.proofs.Math.Option.{Option, none, some, none-ne-some, some-injective}
+use Rattle.std.proofs.Math.ListN.{get_elem?}
 use borrow.Author.Tests.{eqb-true}
 use Rattle.text_rules.specs.TextWords.{Declaration, number_of, is_number, declared_twice}
 use Rattle.text_rules.specs.Text.{text_declarations}
-use Rattle.text.specs.Names.{last_with, name_at, is_name}
-use Rattle.text.proofs.NameLaws.{last-below}
+use Rattle.text.specs.Hash.{last_with, found_at, is_name}
+use Rattle.text.specs.Names.{Table, name_at}
+use Rattle.text.specs.Steps.{option_of}
+use Rattle.text.proofs.NameLaws.{last-below, found_some}
 use Rattle.text.proofs.NumberLaws.{Names, Distinct, number_from, found_number_lem}
 use Rattle.naming.specs.Table.{Declared}
 use Rattle.naming.proofs.WalkLaws.{twice-later, twice-here}
@@ -68,30 +67,30 @@ module _ (ds : List Declaration) (name : ℕ → List ℕ) (e : declared_twice d
   all-distinct i j l m q =
       let s = some-injective i j (sym (of_number i (omega arith)) ∙ ap (λ w. number_of w 0 ds) q ∙ of_number j m) in omega arith
 
--- For callers of `find`: its answer for a name is the number of the rules and 1, or 0 for none.
-module _ (text froms tos heads befores symbols : List ℕ) (n : ℕ) (D : Declared text froms tos heads befores symbols n) (w : List ℕ) (r : ℕ)
-    (found : r ≡ last_with (is_name w) (name_at text froms tos) n) where
-  pub find-number : number_of w 0 (text_declarations text) ≡ number_from r
+-- For callers of `find`: its answer for a name is the number of the rules.
+module _ (t : Table) (D : Declared t) (w : List ℕ) (r : Code ℕ) (found : r ≡ found_at (last_with (is_name w) (name_at t) (length t.entries))) where
+  abbrev last : ℕ
+  last = last_with (is_name w) (name_at t) (length t.entries)
+
+  pub find-number : number_of w 0 (text_declarations t.text) ≡ option_of r
   find-number =
-      let ds = text_declarations text in
-      let name = name_at text froms tos in
+      let ds = text_declarations t.text in
+      let name = name_at t in
       found_number_lem ds name (names_of ds name D.names) w (all-distinct ds name D.distinct D.names)
-      ∙ ap number_from (ap (last_with (is_name w) name) D.count ∙ sym found)
-
-  pub find_none : r ≡ 0 → number_of w 0 (text_declarations text) ≡ none
-  find_none e = find-number ∙ ap number_from e
-
-  pub find-some : (r ≡ 0 → ⊥) → number_of w 0 (text_declarations text) ≡ some (r - 1)
-  find-some f = find-number ∙ go r f
+      ∙ ap number_from (ap (last_with (is_name w) name) D.count)
+      ∙ go last
+      ∙ ap option_of (sym found)
     where
-      go : (k : ℕ) → (k ≡ 0 → ⊥) → number_from k ≡ some (k - 1)
-      go zero f = absurd (f refl)
-      go (suc k) f = let e : k ≡ suc k - 1 = omega arith in ap some e
+      go : (k : ℕ) → number_from k ≡ option_of (found_at k)
+      go zero = refl
+      go (suc k) = refl
+
+  pub find_none : r ≡ None → number_of w 0 (text_declarations t.text) ≡ none
+  find_none e = find-number ∙ ap option_of e
+
+  pub find-some : (j : ℕ) → r ≡ Some j → number_of w 0 (text_declarations t.text) ≡ some j
+  find-some j e = find-number ∙ ap option_of e
 
   -- It is a declaration's.
-  pub find-below : (r ≡ 0 → ⊥) → r - 1 < n
-  find-below f = omega (arith, found, last-below (is_name w) (name_at text froms tos) n, positive r f)
-    where
-      positive : (k : ℕ) → (k ≡ 0 → ⊥) → 0 < k
-      positive zero f = absurd (f refl)
-      positive (suc k) f = omega arith
+  pub find-below : (j : ℕ) → r ≡ Some j → j < length t.entries
+  find-below j e = omega (arith, found_some last j (sym e ∙ found), last-below (is_name w) (name_at t) (length t.entries))

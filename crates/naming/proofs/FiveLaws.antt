@@ -1,12 +1,11 @@
 -- A declaration in the rules: five tokens that the grammar takes.
-use mathlib.Core.Path.{◌≡◌, refl, ap, sym, ◌∙◌}
-use mathlib.Core.Bool.{Bool, true, false, and-eq-true_iff}
-use mathlib.Core.Option.{none, none-ne-some}
-use mathlib.Core.List.{List, [], ◌∷◌}
+use Rattle.std.proofs.Common.{◌≡◌, Bool, true, false, List, [], ◌∷◌, refl, ap, sym, ◌∙◌}
+use Rattle.std.proofs.Math.Option.{none, some, none-ne-some}
+use mathlib.Core.Bool.{and-eq-true_iff}
 use Rattle.text_rules.specs.TextTokens.{Kind, name, number, slash, dot, Token}
-use Rattle.text_rules.specs.TextGrammar.{is, is_key, State, item, keyed, declared, slashed, counted, ◌⇒◌, follows, next, unread}
+use Rattle.text_rules.specs.TextGrammar.{is, is_key, State, item, keyed, declared, slashed, counted, Follow, ◌⇒◌, follows, next, unread}
 use Rattle.text_rules.specs.TextWords.{declares, declaration, declarations, clause_tokens}
-use Rattle.text.proofs.GrammarLaws.{take-rule, leave-rule, unread-goes, unread-stops}
+use Rattle.text.proofs.GrammarLaws.{unread-goes, unread-stops}
 
 -- The lists of the rules, by one test.
 module _ (t : Token) (ts : List Token) where
@@ -25,6 +24,15 @@ module _ (t : Token) (ts : List Token) where
   pub clauses-here : declares t ts ≡ false → clause_tokens 0 (t ∷ ts) ≡ t ∷ ts
   unfolding clause_tokens
   clauses-here e = rw (e, clause_tokens)
+
+-- The first rule that fits.
+take-rule : (f : Token → Bool) (s : State) (fs : List Follow) (t : Token) → f t ≡ true → next ((f ⇒ s) ∷ fs) t ≡ some s
+unfolding next
+take-rule f s fs t e = rw (e, next)
+
+leave-rule : (f : Token → Bool) (s : State) (fs : List Follow) (t : Token) → f t ≡ false → next ((f ⇒ s) ∷ fs) t ≡ next fs t
+unfolding next
+leave-rule f s fs t e = rw (e, next)
 
 -- Where one kind of token alone may stand.
 only_then :

@@ -1,19 +1,17 @@
 -- One declaration of a readable text, at a place.
-use Prim.Native.Nat.{ℕ, zero, suc, ◌-◌, ◌≤◌, ◌<◌}
-use mathlib.Core.Path.{◌≡◌, refl, ap, ap₂, sym, ◌∙◌}
-use mathlib.Core.Bool.{Bool, true, false, not, ◌&&◌, ◌||◌, and-eq-true_iff}
-use mathlib.Core.Option.{none}
-use mathlib.Core.List.{List, [], ◌∷◌}
-use native.Mathlib.Omega.{arith}
-use lib.ListN.{length, get_or, take, drop}
-use lib.Seq.{slice, drop-cons, take-nil}
-use lib.Dec.{eqb}
-use borrow.Author.Tests.{eq-eqb, ne_eqb, eqb-true}
+use Rattle.std.proofs.Common.{◌≡◌, ℕ, zero, suc, ◌-◌, ◌<◌, Bool, true, false, ◌&&◌, ◌||◌, List, [], ◌∷◌, length, get_or, take, drop, eqb, refl, ap, ap₂, sym, ◌∙◌, arith, drop-cons}
+use Rattle.std.proofs.Math.Option.{none}
+use mathlib.Core.Bool.{not, and-eq-true_iff}
+use borrow.Author.Tests.{ne_eqb, eqb-true}
 use Rattle.text_rules.specs.TextTokens.{Kind, name, number, slash, dot, kind_number, value, Token, tokens}
-use Rattle.text_rules.specs.TextGrammar.{is, is_key, same_bytes, fn_text, pr_text, item, declared, slashed, counted, unread}
+use Rattle.text_rules.specs.TextGrammar.{same_kind, is, is_key, same_bytes, fn_text, pr_text, item, declared, slashed, counted, unread}
 use Rattle.text_rules.specs.TextWords.{symbol_from, token_at, declares, declaration, declarations, clause_tokens}
 use Rattle.text.specs.declared.tokens.Token as code
+use Rattle.text.specs.declared.tokens.Kind.{Kind as Code}
+use Rattle.text.specs.declared.tokens.Kind.TheVariants.{Ending, Name, Number}
+use Rattle.text.specs.Kinds.{kind_of}
 use Rattle.text.specs.Scan.{tokens_from, Next}
+use Rattle.text.proofs.TokenLaws.{not-ending}
 use Rattle.text.proofs.ReadLaws.{token_of}
 use Rattle.naming.specs.declared.declarations.Declaration.{Declaration}
 use Rattle.naming.specs.Walks.{symbol_of, declaration_of, Declares, Ends}
@@ -44,153 +42,151 @@ unfolding symbol_from
 key-symbol key k true e = rw (e, symbol_from)
 key-symbol key k false e = rw (e, symbol_from)
 
--- A token's bytes, as a slice and by the first.
-slice_taken : (f t : ℕ) (l : List ℕ) → f ≤ t → slice f t l ≡ take (t - f) (drop f l)
-slice_taken zero t l h = let e : t ≡ t - 0 = omega arith in ap (λ k. take k l) e
-slice_taken (suc f) zero l h = absurd (omega arith)
-slice_taken (suc f) (suc t) [] h = sym (take-nil (suc t - suc f))
-slice_taken (suc f) (suc t) (x ∷ xs) h =
-    let e : t - f ≡ suc t - suc f = omega arith in slice_taken f t xs (omega arith) ∙ ap (λ k. take k (drop f xs)) e
-
+-- A token's bytes by the first.
 first_taken : (text : List ℕ) (from n : ℕ) → from < length text → 0 < n → take n (drop from text) ≡ get_or text from 0 ∷ take (n - 1) (drop (suc from) text)
 first_taken text from zero h l = absurd (omega arith)
 first_taken text from (suc n) h l =
     let e : n ≡ suc n - 1 = omega arith in ap (take (suc n)) (drop-cons text from 0 h) ∙ ap (λ k. get_or text from 0 ∷ take k (drop (suc from) text)) e
 
+-- A kind of token, by the code's.
+number-kind : (x : Code) → same_kind number (kind_of x) ≡ true → ((m : ℕ) → x ≡ Number m → ⊥) → ⊥
+number-kind x e f = grind (arith, f)
+
 -- The next token and those after it.
 module _ (text : List ℕ) (at : ℕ) (r : code.Token) (n : Next text at r) where
-  pub scanned-on : (r.kind ≡ 1 → ⊥) → tokens 0 (drop at text) ≡ token_of text r n.sort ∷ tokens 0 (drop r.to text)
-  scanned-on f = n.scanned ∙ rw (ne_eqb r.kind 1 f, tokens_from) refl
+  pub scanned-on : (r.kind ≡ Ending → ⊥) → tokens 0 (drop at text) ≡ token_of text r ∷ tokens 0 (drop r.to text)
+  scanned-on f = n.scanned ∙ ap {B = List Token} (token_of text r ∷◌) (not-ending r.kind text r.to f)
 
-  kind-of : (k : Kind) → is k (token_of text r n.sort) ≡ true → r.kind ≡ kind_number k
-  kind-of k e = sym n.kind ∙ sym (eqb-true (kind_number k) (kind_number n.sort) e)
+  not-last : (k : Kind) → (kind_number k ≡ 1 → ⊥) → is k (token_of text r) ≡ true → r.kind ≡ Ending → ⊥
+  not-last k f e q = f (eqb-true (kind_number k) 1 (ap (λ x. eqb (kind_number k) (kind_number (kind_of x))) (sym q) ∙ e))
 
-  of-kind : (k : Kind) → r.kind ≡ kind_number k → is k (token_of text r n.sort) ≡ true
-  of-kind k e = eq-eqb (kind_number k) (kind_number n.sort) (sym e ∙ sym n.kind)
-
-  key-kind : is_key (token_of text r n.sort) ≡ true → r.kind ≡ 2
+  key-name : is_key (token_of text r) ≡ true → is name (token_of text r) ≡ true
   unfolding is_key
-  key-kind e =
-      let t = token_of text r n.sort in
-      kind-of name ((and-eq-true_iff (is name t) (same_bytes t.bytes fn_text || same_bytes t.bytes pr_text)).0 e).0
+  key-name e = let t = token_of text r in ((and-eq-true_iff (is name t) (same_bytes t.bytes fn_text || same_bytes t.bytes pr_text)).0 e).0
 
-  pub key-inside-text : is_key (token_of text r n.sort) ≡ true → r.from < length text
-  key-inside-text e = omega (arith, n.progress (λ q. omega (arith, key-kind e)), n.inside)
+  key-not-last : is_key (token_of text r) ≡ true → r.kind ≡ Ending → ⊥
+  key-not-last e = not-last name (λ q. omega arith) (key-name e)
 
   -- No declaration from here on.
-  ends_by : (ts : List Token) → tokens 0 (drop at text) ≡ token_of text r n.sort ∷ ts → declares (token_of text r n.sort) ts ≡ false → Ends text at
+  ends_by : (ts : List Token) → tokens 0 (drop at text) ≡ token_of text r ∷ ts → declares (token_of text r) ts ≡ false → Ends text at
   ends_by ts e f =
       record {
-        first = ap (declarations 0) e ∙ declared-none (token_of text r n.sort) ts f;
-        clauses = ap (clause_tokens 0) e ∙ clauses-here (token_of text r n.sort) ts f ∙ sym e;
+        first = ap (declarations 0) e ∙ declared-none (token_of text r) ts f;
+        clauses = ap (clause_tokens 0) e ∙ clauses-here (token_of text r) ts f ∙ sym e;
       }
 
-  pub no_key : is_key (token_of text r n.sort) ≡ false → Ends text at
+  pub no_key : is_key (token_of text r) ≡ false → Ends text at
   unfolding declares
   no_key e =
       let ts = tokens_from r.kind text r.to in
       ends_by ts n.scanned (ap (◌&& is name (token_at ts 0)) e)
 
-  pub no_name : is_key (token_of text r n.sort) ≡ true → (s : code.Token) → Next text r.to s → (s.kind ≡ 2 → ⊥) → Ends text at
+  pub no_name : is_key (token_of text r) ≡ true → (s : code.Token) → Next text r.to s → (s.kind ≡ Name → ⊥) → Ends text at
   unfolding declares
   no_name e s m f =
       let ts = tokens 0 (drop r.to text) in
-      let g : is name (token_at ts 0) ≡ false = ap (λ l. is name (token_at l 0)) m.scanned ∙ ne_eqb 2 (kind_number m.sort) (λ q. f (sym m.kind ∙ sym q)) in
-      ends_by ts (scanned-on (λ q. omega (arith, key-kind e))) (ap₂ ◌&&◌ e g)
+      let h : is name (token_of text s) ≡ false = grind (arith, f) in
+      let g : is name (token_at ts 0) ≡ false = ap (λ l. is name (token_at l 0)) m.scanned ∙ h in
+      ends_by ts (scanned-on (key-not-last e)) (ap₂ ◌&&◌ e g)
 
 -- A declaration.
-module _ (text : List ℕ) (at : ℕ) (k n s a d : code.Token) (K : Next text at k) (N : Next text k.to n) (S : Next text n.to s) (A : Next text s.to a) (D : Next text a.to d)
-    (readable : unread item (tokens 0 (drop at text)) ≡ none) (key : is_key (token_of text k K.sort) ≡ true) (named : n.kind ≡ 2) where
+module _ (text : List ℕ) (at : ℕ) (k n s a : code.Token) (K : Next text at k) (N : Next text k.to n) (S : Next text n.to s) (A : Next text s.to a)
+    (readable : unread item (tokens 0 (drop at text)) ≡ none) (key : is_key (token_of text k) ≡ true) (named : n.kind ≡ Name) where
   abbrev tk : Token
-  tk = token_of text k K.sort
+  tk = token_of text k
 
   abbrev tn : Token
-  tn = token_of text n N.sort
+  tn = token_of text n
 
   abbrev ts : Token
-  ts = token_of text s S.sort
+  ts = token_of text s
 
   abbrev ta : Token
-  ta = token_of text a A.sort
+  ta = token_of text a
 
-  abbrev td : Token
-  td = token_of text d D.sort
+  is-named : is name tn ≡ true
+  is-named = rw named refl
 
   to-name : tokens 0 (drop at text) ≡ tk ∷ tn ∷ tokens 0 (drop n.to text)
   to-name =
-      scanned-on text at k K (λ q. omega (arith, key-kind text at k K key))
-      ∙ ap {B = List Token} (tk ∷◌) (scanned-on text k.to n N (λ q. omega (arith, named)))
+      scanned-on text at k K (key-not-last text at k K key)
+      ∙ ap {B = List Token} (tk ∷◌) (scanned-on text k.to n N (λ q. cc))
 
   at-slash : unread declared (tokens 0 (drop n.to text)) ≡ none
   at-slash =
       after-name tn (tokens 0 (drop n.to text)) (after-key tk (tn ∷ tokens 0 (drop n.to text)) (ap (unread item) (sym to-name) ∙ readable) key)
-      (of-kind text k.to n N name named)
+      is-named
 
   slash-there : (is slash ts ≡ true) × (unread slashed (tokens_from s.kind text s.to) ≡ none)
   slash-there = after-declared ts (tokens_from s.kind text s.to) (ap (unread declared) (sym S.scanned) ∙ at-slash)
 
   to-slash : tokens_from s.kind text s.to ≡ tokens 0 (drop s.to text)
-  to-slash = rw (ne_eqb s.kind 1 (λ q. omega (arith, kind-of text n.to s S slash slash-there.0)), tokens_from) refl
+  to-slash = not-ending s.kind text s.to (not-last text n.to s S slash (λ q. omega arith) slash-there.0)
 
   number-there : (is number ta ≡ true) × (unread counted (tokens_from a.kind text a.to) ≡ none)
   number-there = after-slash ta (tokens_from a.kind text a.to) (ap (unread slashed) (sym A.scanned ∙ sym to-slash) ∙ slash-there.1)
 
   to_number : tokens_from a.kind text a.to ≡ tokens 0 (drop a.to text)
-  to_number = rw (ne_eqb a.kind 1 (λ q. omega (arith, kind-of text s.to a A number number-there.0)), tokens_from) refl
+  to_number = not-ending a.kind text a.to (not-last text s.to a A number (λ q. omega arith) number-there.0)
 
-  dot-there : (is dot td ≡ true) × (unread item (tokens_from d.kind text d.to) ≡ none)
-  dot-there = after-arity td (tokens_from d.kind text d.to) (ap (unread counted) (sym D.scanned ∙ sym to_number) ∙ number-there.1)
+  -- An arity stands there.
+  pub arity-there : ((m : ℕ) → a.kind ≡ Number m → ⊥) → ⊥
+  arity-there f = number-kind a.kind number-there.0 f
 
-  to-dot : tokens_from d.kind text d.to ≡ tokens 0 (drop d.to text)
-  to-dot = rw (ne_eqb d.kind 1 (λ q. omega (arith, kind-of text a.to d D dot dot-there.0)), tokens_from) refl
+  module _ (d : code.Token) (D : Next text a.to d) (arity : ℕ) (is_arity : a.kind ≡ Number arity) where
+    abbrev td : Token
+    td = token_of text d
 
-  five : tokens 0 (drop at text) ≡ tk ∷ tn ∷ ts ∷ ta ∷ td ∷ tokens 0 (drop d.to text)
-  five =
-      to-name
-      ∙ ap {B = List Token} (λ l. tk ∷ tn ∷ l)
-      (S.scanned
-      ∙ ap {B = List Token} (ts ∷◌)
-      (to-slash ∙ A.scanned ∙ ap {B = List Token} (ta ∷◌) (to_number ∙ D.scanned ∙ ap {B = List Token} (td ∷◌) to-dot)))
+    dot-there : (is dot td ≡ true) × (unread item (tokens_from d.kind text d.to) ≡ none)
+    dot-there = after-arity td (tokens_from d.kind text d.to) (ap (unread counted) (sym D.scanned ∙ sym to_number) ∙ number-there.1)
 
-  still : unread item (tk ∷ tn ∷ ts ∷ ta ∷ td ∷ tokens 0 (drop d.to text)) ≡ none
-  still = ap (unread item) (sym five) ∙ readable
+    to-dot : tokens_from d.kind text d.to ≡ tokens 0 (drop d.to text)
+    to-dot = not-ending d.kind text d.to (not-last text a.to d D dot (λ q. omega arith) dot-there.0)
 
-  is-named : is name tn ≡ true
-  is-named = of-kind text k.to n N name named
+    five : tokens 0 (drop at text) ≡ tk ∷ tn ∷ ts ∷ ta ∷ td ∷ tokens 0 (drop d.to text)
+    five =
+        to-name
+        ∙ ap {B = List Token} (λ l. tk ∷ tn ∷ l)
+        (S.scanned
+        ∙ ap {B = List Token} (ts ∷◌)
+        (to-slash ∙ A.scanned ∙ ap {B = List Token} (ta ∷◌) (to_number ∙ D.scanned ∙ ap {B = List Token} (td ∷◌) to-dot)))
 
-  key-inside : k.from < k.to
-  key-inside = K.progress (λ q. omega (arith, key-kind text at k K key))
+    still : unread item (tk ∷ tn ∷ ts ∷ ta ∷ td ∷ tokens 0 (drop d.to text)) ≡ none
+    still = ap (unread item) (sym five) ∙ readable
 
-  arity-value : a.value ≡ value 0 ta.bytes
-  arity-value = A.number (kind-of text s.to a A number number-there.0)
+    key-inside : k.from < k.to
+    key-inside = K.progress (key-not-last text at k K key)
 
-  the-symbol : symbol_from tk.bytes (value 0 ta.bytes) ≡ symbol_of (not (eqb (get_or text k.from 0) 102)) a.value
-  the-symbol =
-      let in_text : k.from < length text = omega (arith, key-inside, K.inside) in
-      let some : 0 < k.to - k.from = omega (arith, key-inside) in
-      let first = first_taken text k.from (k.to - k.from) in_text some in
-      key-symbol tk.bytes (value 0 ta.bytes) (eqb (get_or text k.from 0) 102)
-      (key-first tk (get_or text k.from 0) (take (k.to - k.from - 1) (drop (suc k.from) text)) first key)
-      ∙ ap (symbol_of (not (eqb (get_or text k.from 0) 102))) (sym arity-value)
+    arity-value : arity ≡ value 0 ta.bytes
+    arity-value = A.number arity is_arity
 
-  abbrev this : Declaration
-  this = record { from = n.from; to = n.to; predicate = not (eqb (get_or text k.from 0) 102); arity = a.value; end = d.to }
+    the-symbol : symbol_from tk.bytes (value 0 ta.bytes) ≡ symbol_of (not (eqb (get_or text k.from 0) 102)) arity
+    the-symbol =
+        let in_text : k.from < length text = omega (arith, key-inside, K.inside) in
+        let some : 0 < k.to - k.from = omega (arith, key-inside) in
+        let first = first_taken text k.from (k.to - k.from) in_text some in
+        key-symbol tk.bytes (value 0 ta.bytes) (eqb (get_or text k.from 0) 102)
+        (key-first tk (get_or text k.from 0) (take (k.to - k.from - 1) (drop (suc k.from) text)) first key)
+        ∙ ap (symbol_of (not (eqb (get_or text k.from 0) 102))) (sym arity-value)
 
-  same-declaration : declaration tk (tn ∷ ts ∷ ta ∷ td ∷ tokens 0 (drop d.to text)) ≡ declaration_of text this
-  unfolding declaration
-  same-declaration =
-      ap₂ (λ x y. record { symbol = x; name = y; left = length text - n.from }) the-symbol (sym (slice_taken n.from n.to text N.forward))
+    abbrev this : Declaration
+    this = record { from = n.from; to = n.to; predicate = not (eqb (get_or text k.from 0) 102); arity = arity; end = d.to }
 
-  pub declared-here : Declares text at this
-  declared-here =
-      let rest = tokens 0 (drop d.to text) in
-      record {
-        later = omega (arith, K.later, key-inside, N.later);
-        forward = N.forward;
-        before = omega (arith, S.later, S.forward, A.later, A.forward, D.later, D.progress (λ q. omega (arith, kind-of text a.to d D dot dot-there.0)));
-        inside = D.inside;
-        small = omega (arith, arity-value, number_small (drop s.to text) ta (tokens_from a.kind text a.to) A.scanned number-there.0);
-        first = ap (declarations 0) five ∙ five-declared tk tn ts ta td rest still key is-named ∙ ap (λ x. x ∷ declarations 0 rest) same-declaration;
-        clauses = ap (clause_tokens 0) five ∙ five-passed tk tn ts ta td rest still key is-named;
-        readable = ap (unread item) (sym to-dot) ∙ dot-there.1;
-      }
+    same-declaration : declaration tk (tn ∷ ts ∷ ta ∷ td ∷ tokens 0 (drop d.to text)) ≡ declaration_of text this
+    unfolding declaration
+    same-declaration =
+        ap₂ (λ x y. record { symbol = x; name = y; left = length text - n.from }) the-symbol refl
+
+    pub declared-here : Declares text at this
+    declared-here =
+        let rest = tokens 0 (drop d.to text) in
+        record {
+          later = omega (arith, K.later, key-inside, N.later);
+          forward = N.forward;
+          before = omega (arith, S.later, S.forward, A.later, A.forward, D.later, D.progress (not-last text a.to d D dot (λ q. omega arith) dot-there.0));
+          inside = D.inside;
+          small = omega (arith, arity-value, number_small (drop s.to text) ta (tokens_from a.kind text a.to) A.scanned number-there.0);
+          first = ap (declarations 0) five ∙ five-declared tk tn ts ta td rest still key is-named ∙ ap (λ x. x ∷ declarations 0 rest) same-declaration;
+          clauses = ap (clause_tokens 0) five ∙ five-passed tk tn ts ta td rest still key is-named;
+          readable = ap (unread item) (sym to-dot) ∙ dot-there.1;
+        }

@@ -1,20 +1,18 @@
 -- Walking over the declarations.
-use Prim.Native.Nat.{ℕ, zero, suc, ◌+◌, ◌-◌, ◌≤◌, ◌<◌}
-use mathlib.Core.Path.{◌≡◌, refl, ap, ap₂, sym, ◌∙◌}
-use mathlib.Core.Bool.{true, false}
-use mathlib.Core.Option.{none, some}
-use mathlib.Core.List.{List, [], ◌∷◌}
-use native.Mathlib.Omega.{arith}
-use native.Mathlib.Numerals.{add-one}
-use lib.ListN.{length, get_elem?, drop, length-drop}
-use lib.Seq.{slice}
+use Rattle.std.proofs.Common.{◌≡◌, ℕ, zero, suc, ◌+◌, ◌-◌, ◌<◌, true, false, List, [], ◌∷◌, length, drop, refl, ap, ap₂, sym, ◌∙◌, subst, arith, add-one, length-drop}
+use Rattle.std.proofs.Math.Option.{none, some}
+use Rattle.std.proofs.Math.ListN.{get_elem?}
+use Rattle.std.specs.List.{slice_range}
 use Rattle.text_rules.specs.TextTokens.{tokens}
 use Rattle.text_rules.specs.TextGrammar.{item, unread}
 use Rattle.text_rules.specs.TextWords.{declarations, clause_tokens, number_of, is_number, declared_twice}
 use Rattle.text_rules.specs.TextWords as rules
 use Rattle.text_rules.specs.Text.{text_declarations, place_of}
 use Rattle.naming.specs.declared.declarations.Declaration.{Declaration}
-use Rattle.naming.specs.Walks.{declaration_of, Declares, Ends, Passed, Counted}
+use Rattle.text.specs.Hash.{last_with, found_at, is_name}
+use Rattle.text.specs.Names.{Table, name_at}
+use Rattle.std.specs.Prelude.{Option as Code}
+use Rattle.naming.specs.Walks.{declaration_of, Declares, Ends, At, Passed, Counted}
 
 -- The first of what is left of a list.
 drop-first :
@@ -75,22 +73,13 @@ module _ (text : List ℕ) (at n : ℕ) (p : Passed text at n) where
           readable = h.readable;
         }
 
-    pub passed-forward : length text - d.end < length text - at
-    passed-forward = omega (arith, h.later, h.forward, h.before, h.inside)
-
-    pub passed-room : length text < 18446744073709551616 → n < 18446744073709551615
-    passed-room l = omega (arith, p.few, h.later, h.forward, h.before, h.inside)
-
-    pub passed-name : (d.from ≤ d.to) × (d.to ≤ length text)
-    passed-name = (h.forward, omega (arith, h.before, h.inside))
-
     -- Looking for a name declared twice.
     module _ (e : declared_twice ds 0 ds ≡ declared_twice ds n (drop n ds)) where
-      pub once-here : is_number (number_of (slice d.from d.to text) 0 ds) n ≡ true → declared_twice ds 0 ds ≡ declared_twice ds (n + 1) (drop (n + 1) ds)
+      pub once-here : is_number (number_of (slice_range text d.from d.to) 0 ds) n ≡ true → declared_twice ds 0 ds ≡ declared_twice ds (n + 1) (drop (n + 1) ds)
       once-here q =
           e ∙ ap (declared_twice ds n) here ∙ twice-later ds n (declaration_of text d) left q ∙ ap₂ (declared_twice ds) (sym (add-one n)) (sym later)
 
-      pub again-here : is_number (number_of (slice d.from d.to text) 0 ds) n ≡ false → place_of text (declared_twice ds 0 ds) ≡ some d.from
+      pub again-here : is_number (number_of (slice_range text d.from d.to) 0 ds) n ≡ false → place_of text (declared_twice ds 0 ds) ≡ some d.from
       unfolding place_of
       again-here q =
           let back : length text - (length text - d.from) ≡ d.from = omega (arith, h.forward, h.before, h.inside) in
@@ -110,3 +99,13 @@ module _ (text : List ℕ) (at n : ℕ) (p : Passed text at n) where
     pub once-nowhere : declared_twice ds 0 ds ≡ declared_twice ds n (drop n ds) → declared_twice ds 0 ds ≡ none
     unfolding declared_twice
     once-nowhere e = e ∙ ap (declared_twice ds n) nothing
+
+-- What is found in a text, and what is looked for there, by a table over that text.
+module _ (t : Table) (text : List ℕ) (m : text ≡ t.text) where
+  pub at_table : (at : ℕ) (o p : Code Declaration) → o ≡ p → At text at o → At t.text at p
+  at_table at o p e h = subst (At t.text at) e (subst (λ x. At x at o) m h)
+
+  pub looked_up :
+      (from to : ℕ) (r : Code ℕ) → r ≡ found_at (last_with (is_name (slice_range text from to)) (name_at t) (length t.entries))
+      → r ≡ found_at (last_with (is_name (slice_range t.text from to)) (name_at t) (length t.entries))
+  looked_up from to r e = e ∙ ap (λ x. found_at (last_with (is_name (slice_range x from to)) (name_at t) (length t.entries))) m

@@ -1,30 +1,25 @@
 -- Names declared twice, window by window.
-use Prim.Native.Nat.{ℕ, zero, suc, ◌+◌, ◌-◌, ◌≤◌, ◌<◌}
-use mathlib.Core.Path.{◌≡◌, refl, ap, ap₂, sym, ◌∙◌}
-use mathlib.Core.Bool.{true, false}
-use mathlib.Core.Option.{none, some, none-ne-some, some-injective}
-use mathlib.Core.List.{List, [], ◌∷◌}
-use native.Mathlib.Omega.{arith}
-use native.Mathlib.Decide.{dec_lt, ℕ_discrete}
-use lib.ListN.{length, get_elem?, set}
-use lib.Seq.{slice, get_or-set_same, get_or-set_other}
+use Rattle.std.proofs.Common.{◌≡◌, ℕ, zero, suc, ◌+◌, ◌-◌, ◌≤◌, ◌<◌, true, false, List, [], ◌∷◌, length, refl, ap, ap₂, sym, ◌∙◌, subst, arith, length-append}
+use Rattle.std.specs.Prelude.{Option as Code, Some, None}
+use Rattle.std.proofs.Math.Option.{none, some, none-ne-some, some-injective}
+use Rattle.std.proofs.Math.ListN.{get_elem?}
+use Rattle.std.specs.List.{slice_range}
+use native.Mathlib.Decide.{dec_lt}
 use Rattle.text_rules.specs.TextWords.{number_of, is_number, declared_twice}
 use Rattle.text_rules.specs.TextWords as rules
 use Rattle.text_rules.specs.Text.{text_declarations, place_of}
-use Rattle.text.specs.Names.{last_with, name_at, is_name, Entered}
+use Rattle.text.specs.declared.names.Entry.{Entry}
+use Rattle.text.specs.Hash.{last_with, found_at, is_name}
+use Rattle.text.specs.Names.{Table, entry_at, name_at, entered}
 use Rattle.text.specs.Steps.{option_of}
-use Rattle.text.specs.declared.grammar.Place.{Place}
-use Rattle.text.specs.declared.grammar.Place.TheVariants.{At, Nowhere}
-use Rattle.text.proofs.NameLaws.{bytes_same, last-below, last-passes}
+use Rattle.text.proofs.NameLaws.{bytes_same, last-below, last-passes, found_none, found_some, entered-old, entered-new}
 use Rattle.text.proofs.NumberLaws.{Names, Distinct, last_none, declared-once, declared-again}
 use Rattle.naming.specs.declared.declarations.Declaration.{Declaration}
 use Rattle.naming.specs.declared.windows.First.{First}
-use Rattle.naming.specs.Table.{Cleared}
 use Rattle.naming.specs.Walks.{declaration_of, Declares, Ends, Passed}
 use Rattle.naming.specs.Windows.{name_in, name_of, Again, Ended, Known, Kept}
 use Rattle.naming.proofs.WalkLaws.{twice-later, twice-here, passed-this, passed-one, passed-all}
 use Rattle.naming.proofs.FindLaws.{is_below, names_of}
-use Rattle.naming.proofs.TableLaws.{none-entered}
 
 -- The first name declared for the second time, by the numbers of the declarations.
 module _ (all : List rules.Declaration) where
@@ -88,9 +83,9 @@ module _ (ds : List rules.Declaration) (c : ℕ) (below : c ≤ length ds) (D : 
       (λ j x m r. let t : 0 + j ≡ j = omega arith in ap (is_number (number_of x.name 0 ds)) t ∙ own-number j x m r)
 
 -- What is known.
-ended-below : (text : List ℕ) (c : ℕ) (p : Place) → Ended text c p → c ≤ length (text_declarations text)
-ended-below text c (At at) a = omega (arith, is_below (text_declarations text) c a.this a.there)
-ended-below text c Nowhere e = omega arith
+ended-below : (text : List ℕ) (c : ℕ) (p : Code ℕ) → Ended text c p → c ≤ length (text_declarations text)
+ended-below text c (Some at) a = omega (arith, is_below (text_declarations text) c a.this a.there)
+ended-below text c None e = omega arith
 
 module _ (text : List ℕ) (n : ℕ) (f : First) (K : Known text n f) where
   pub known-below : f.number ≤ length (text_declarations text)
@@ -107,157 +102,163 @@ module _ (text : List ℕ) (n : ℕ) (f : First) (K : Known text n f) where
       differ : Distinct (name_of (text_declarations text)) f.number
       differ i j p q = K.distinct i j (omega arith) p q
 
-      go : (p : Place) → Ended text f.number p → place_of text (declared_twice (text_declarations text) 0 (text_declarations text)) ≡ option_of p
-      go (At at) a =
+      go : (p : Code ℕ) → Ended text f.number p → place_of text (declared_twice (text_declarations text) 0 (text_declarations text)) ≡ option_of p
+      go (Some at) a =
           ap (place_of text) (first-again (text_declarations text) f.number known-below differ a.earlier a.this a.less a.same a.there)
           ∙ a.place
-      go Nowhere e = ap (place_of text) (none-again (text_declarations text) f.number known-below differ e)
+      go None e = ap (place_of text) (none-again (text_declarations text) f.number known-below differ e)
 
 pub none-known : (text : List ℕ) (f : First) → Ended text f.number f.place → Known text 0 f
 none-known text f e = record { distinct = λ i j p. absurd (omega arith); ended = e }
 
--- The pass over the declarations from number `number` on: those up to n are passed, the first k of them in the table.
-pub record Passing (text froms tos heads befores : List ℕ) (number last at n k : ℕ) : Type 0 where
-  pub passed : Passed text at n
+-- The pass over the declarations from number `number` on: those up to n are passed, the first 4,096 of them in the table.
+pub record Passing (t : Table) (number last at n : ℕ) : Type 0 where
+  pub passed : Passed t.text at n
   pub before : n ≤ last
-  pub most : k ≤ 4096
-  pub many : number + k ≤ n
-  pub full : (k ≡ 4096 → ⊥) → number + k ≡ n
-  pub entered : Entered text froms tos heads befores k
-  pub names : (j : ℕ) → j < k → name_at text froms tos j ≡ name_of (text_declarations text) (number + j)
+  pub most : length t.entries ≤ 4096
+  pub many : number + length t.entries ≤ n
+  pub full : length t.entries < 4096 → number + length t.entries ≡ n
+  pub names : (j : ℕ) → j < length t.entries → name_at t j ≡ name_of (text_declarations t.text) (number + j)
   pub distinct :
-      (i j : ℕ) → number ≤ i → i < number + k → i < j → j < n → name_of (text_declarations text) i ≡ name_of (text_declarations text) j → ⊥
+      (i j : ℕ) → number ≤ i → i < number + length t.entries → i < j → j < n
+      → name_of (text_declarations t.text) i ≡ name_of (text_declarations t.text) j → ⊥
 
-pub passing-none :
-    (text froms tos heads befores : List ℕ) (number last at : ℕ) → Cleared froms tos heads befores froms → Passed text at number → number ≤ last
-    → Passing text froms tos heads befores number last at number 0
-passing-none text froms tos heads befores number last at c p l =
+pub passing-none : (t : Table) (number last at : ℕ) → t.entries ≡ [] → Passed t.text at number → number ≤ last → Passing t number last at number
+passing-none t number last at z p l =
+    let e : length t.entries ≡ 0 = ap length z in
     record {
       passed = p;
       before = l;
       most = omega arith;
       many = omega arith;
       full = λ f. omega arith;
-      entered = none-entered text froms tos heads befores froms c;
       names = λ j l. absurd (omega arith);
       distinct = λ i j p q. absurd (omega arith);
     }
 
-module _ (text froms tos heads befores : List ℕ) (number last at n k : ℕ) (P : Passing text froms tos heads befores number last at n k) where
+module _ (t : Table) (number last at n : ℕ) (P : Passing t number last at n) where
   abbrev ds : List rules.Declaration
-  ds = text_declarations text
+  ds = text_declarations t.text
+
+  abbrev k : ℕ
+  k = length t.entries
 
   in_window : (i : ℕ) → i < number + 4096 → i < n → i < number + k
-  in_window i p q = go (ℕ_discrete k 4096)
+  in_window i p q = go (dec_lt k 4096)
     where
-      go : Dec (k ≡ 4096) → i < number + k
-      go (yes e) = omega arith
-      go (no f) = omega (arith, P.full f)
+      go : Dec (k < 4096) → i < number + k
+      go (yes f) = omega (arith, P.full f)
+      go (no f) = omega (arith, P.most)
 
   -- Up to a declaration that is passed.
   pub passing-known :
-      (f g : First) → Known text number f → g.number ≤ f.number → g.number ≤ n → Ended text g.number g.place → Known text (number + 4096) g
+      (f g : First) → Known t.text number f → g.number ≤ f.number → g.number ≤ n → Ended t.text g.number g.place → Known t.text (number + 4096) g
   passing-known f g K a b e = record { distinct = λ i j p q r. go i j p q r (dec_lt i number); ended = e }
     where
       go : (i j : ℕ) → i < number + 4096 → i < j → j < g.number → Dec (i < number) → name_of ds i ≡ name_of ds j → ⊥
       go i j p q r (yes s) = K.distinct i j s q (omega arith)
       go i j p q r (no s) = P.distinct i j (omega arith) (in_window i p (omega arith)) q (omega arith)
 
-  pub passing-ended : (f : First) → Known text number f → Ends text at → Known text (number + 4096) f
+  pub passing-ended : (f : First) → Known t.text number f → Ends t.text at → Known t.text (number + 4096) f
   passing-ended f K h =
-      passing-known f f K (omega arith) (omega (arith, known-below text number f K, passed-all text at n P.passed h)) K.ended
+      passing-known f f K (omega arith) (omega (arith, known-below t.text number f K, passed-all t.text at n P.passed h)) K.ended
 
   -- The next declaration.
-  module _ (d : Declaration) (h : Declares text at d) where
+  module _ (d : Declaration) (h : Declares t.text at d) where
     abbrev this : List ℕ
-    this = slice d.from d.to text
+    this = slice_range t.text d.from d.to
 
-    there : get_elem? ds n ≡ some (declaration_of text d)
-    there = passed-this text at n P.passed d h
+    there : get_elem? ds n ≡ some (declaration_of t.text d)
+    there = passed-this t.text at n P.passed d h
 
-    back : place_of text (some (length text - d.from)) ≡ some d.from
+    back : place_of t.text (some (length t.text - d.from)) ≡ some d.from
     unfolding place_of
-    back = let e : length text - (length text - d.from) ≡ d.from = omega (arith, h.forward, h.before, h.inside) in ap some e
+    back = let e : length t.text - (length t.text - d.from) ≡ d.from = omega (arith, h.forward, h.before, h.inside) in ap some e
 
-    module _ (r : ℕ) (e : r ≡ last_with (is_name this) (name_at text froms tos) k) where
-      pub passing-again : (r ≡ 0 → ⊥) → Again text n d.from
-      passing-again g = go r refl
-        where
-          go : (m : ℕ) → r ≡ m → Again text n d.from
-          go zero z = absurd (g z)
-          go (suc j) z =
-              let q : last_with (is_name this) (name_at text froms tos) k ≡ suc j = sym e ∙ z in
-              let b : j < k = omega (arith, q, last-below (is_name this) (name_at text froms tos) k) in
-              record {
-                earlier = number + j;
-                less = omega (arith, b, P.many);
-                same =
-                    sym (P.names j b)
-                    ∙ bytes_same (name_at text froms tos j) this (last-passes (is_name this) (name_at text froms tos) k j q)
-                    ∙ sym (ap name_in there);
-                this = declaration_of text d;
-                there = there;
-                place = back;
-              }
+    module _ (r : Code ℕ) (e : r ≡ found_at (last_with (is_name this) (name_at t) k)) where
+      abbrev found : ℕ
+      found = last_with (is_name this) (name_at t) k
+
+      pub passing-again : (j : ℕ) → r ≡ Some j → Again t.text n d.from
+      passing-again j z =
+          let q : found ≡ suc j = found_some found j (sym z ∙ e) in
+          let b : j < k = omega (arith, q, last-below (is_name this) (name_at t) k) in
+          record {
+            earlier = number + j;
+            less = omega (arith, b, P.many);
+            same = sym (P.names j b) ∙ bytes_same (name_at t j) this (last-passes (is_name this) (name_at t) k j q) ∙ sym (ap name_in there);
+            this = declaration_of t.text d;
+            there = there;
+            place = back;
+          }
 
       -- Its name is not in the table.
-      module _ (z : r ≡ 0) where
+      module _ (z : r ≡ None) where
         fresh : (i : ℕ) → number ≤ i → i < number + k → name_of ds i ≡ name_of ds n → ⊥
         fresh i p q s =
-            let t : number + (i - number) ≡ i = omega arith in
-            last_none this (name_at text froms tos) k (i - number) (sym e ∙ z) (omega arith)
-            (sym (ap name_in there) ∙ sym s ∙ ap (name_of ds) (sym t) ∙ sym (P.names (i - number) (omega arith)))
+            let u : number + (i - number) ≡ i = omega arith in
+            last_none this (name_at t) k (i - number) (found_none found (sym z ∙ e)) (omega arith)
+            (sym (ap name_in there) ∙ sym s ∙ ap (name_of ds) (sym u) ∙ sym (P.names (i - number) (omega arith)))
 
         differ : (i j : ℕ) → number ≤ i → i < number + k → i < j → j < n + 1 → name_of ds i ≡ name_of ds j → ⊥
         differ i j p q a b s = go (dec_lt j n)
           where
             go : Dec (j < n) → ⊥
             go (yes l) = P.distinct i j p q a l s
-            go (no l) = let t : j ≡ n = omega arith in fresh i p q (s ∙ ap (name_of ds) t)
+            go (no l) = let u : j ≡ n = omega arith in fresh i p q (s ∙ ap (name_of ds) u)
 
-        module _ (left : n < last) (in_froms : 4096 ≤ length froms) (in_tos : 4096 ≤ length tos) (froms' tos' heads' befores' : List ℕ) (k' : ℕ)
-            (K : Kept text froms tos k d.from d.to froms' tos' heads' befores' k') where
-          new-name :
-              (g : k ≡ 4096 → ⊥) → froms' ≡ set froms k d.from → tos' ≡ set tos k d.to → (j : ℕ) → j < k + 1 → Dec (j < k)
-              → name_at text froms' tos' j ≡ name_of ds (number + j)
-          new-name g a b j l (yes p) =
-              ap₂ (λ u v. name_at text u v j) a b
-              ∙ ap₂ (λ u v. slice u v text) (get_or-set_other froms k j d.from 0 (λ e. omega arith)) (get_or-set_other tos k j d.to 0 (λ e. omega arith))
-              ∙ P.names j p
-          new-name g a b j l (no p) =
+        module _ (left : n < last) (x : Entry) (same_from : x.from ≡ d.from) (same_to : x.to ≡ d.to) where
+          unchanged : (k < 4096 → ⊥) → Passing t number last d.end (n + 1)
+          unchanged f =
+              record {
+                passed = passed-one t.text at n P.passed d h;
+                before = omega arith;
+                most = P.most;
+                many = omega (arith, P.many);
+                full = λ l. absurd (f l);
+                names = P.names;
+                distinct = λ i j p q. differ i j p q;
+              }
+
+          size : length (entered t x).entries ≡ k + 1
+          size = length-append t.entries (x ∷ [])
+
+          new-name : k < 4096 → (j : ℕ) → j < k + 1 → Dec (j < k) → name_at (entered t x) j ≡ name_of ds (number + j)
+          new-name f j l (yes p) = ap (λ (u : Entry). slice_range t.text u.from u.to) (entered-old t x j p) ∙ P.names j p
+          new-name f j l (no p) =
               let s : j ≡ k = omega arith in
-              let t : n ≡ number + j = omega (arith, P.full g) in
-              ap (name_at text froms' tos') s
-              ∙ ap₂ (λ u v. name_at text u v k) a b
-              ∙ ap₂ (λ u v. slice u v text) (get_or-set_same froms k d.from 0 (omega (arith, P.most, g))) (get_or-set_same tos k d.to 0 (omega (arith, P.most, g)))
+              let u : n ≡ number + j = omega (arith, P.full f) in
+              ap (λ (u : Entry). slice_range t.text u.from u.to) (ap (entry_at (entered t x)) s ∙ entered-new t x)
+              ∙ ap₂ (slice_range t.text) same_from same_to
               ∙ sym (ap name_in there)
-              ∙ ap (name_of ds) t
+              ∙ ap (name_of ds) u
 
-          on : Dec (k ≡ 4096) → Passing text froms' tos' heads' befores' number last d.end (n + 1) k'
-          on (yes e) =
-              let f = K.full e in
+          one-more : k < 4096 → Passing (entered t x) number last d.end (n + 1)
+          one-more f =
               record {
-                passed = passed-one text at n P.passed d h;
+                passed = passed-one t.text at n P.passed d h;
                 before = omega arith;
-                most = omega (arith, f.0);
-                many = omega (arith, f.0, P.many);
-                full = λ g. absurd (g (f.0 ∙ e));
-                entered = K.entered;
-                names = λ j l. ap₂ (λ u v. name_at text u v j) f.1 f.2 ∙ P.names j (omega (arith, f.0));
-                distinct = λ i j p q. differ i j p (omega (arith, f.0));
+                most = omega (arith, size);
+                many = omega (arith, size, P.full f);
+                full = λ l. omega (arith, size, P.full f);
+                names = λ j l. new-name f j (omega (arith, size)) (dec_lt j k);
+                distinct = λ i j p q a b s. new-distinct i j p (omega (arith, size)) a b s (dec_lt i n);
               }
-          on (no g) =
-              let f = K.more g in
-              record {
-                passed = passed-one text at n P.passed d h;
-                before = omega arith;
-                most = omega (arith, f.0, P.most, g);
-                many = omega (arith, f.0, P.many);
-                full = λ x. omega (arith, f.0, P.full g);
-                entered = K.entered;
-                names = λ j l. new-name g f.1 f.2 j (omega (arith, f.0)) (dec_lt j k);
-                distinct = λ i j p q a b s. differ i j p (omega (arith, P.full g)) a b s;
-              }
+            where
+              new-distinct : (i j : ℕ) → number ≤ i → i < number + (k + 1) → i < j → j < n + 1 → name_of ds i ≡ name_of ds j → Dec (i < n) → ⊥
+              new-distinct i j p q a b s (yes l) = differ i j p (omega (arith, P.full f)) a b s
+              new-distinct i j p q a b s (no l) = absurd (omega arith)
 
-          pub passing-one : Passing text froms' tos' heads' befores' number last d.end (n + 1) k'
-          passing-one = on (ℕ_discrete k 4096)
+          pub passing-one : (t' : Table) → Kept t x t' → Passing t' number last d.end (n + 1)
+          passing-one t' K = go (dec_lt k 4096)
+            where
+              go : Dec (k < 4096) → Passing t' number last d.end (n + 1)
+              go (yes f) = subst (λ u. Passing u number last d.end (n + 1)) (sym (K.more f)) (one-more f)
+              go (no f) = subst (λ u. Passing u number last d.end (n + 1)) (sym (K.full (omega (arith, P.most)))) (unchanged f)
+
+          pub kept-text : (t' : Table) → Kept t x t' → t'.text ≡ t.text
+          kept-text t' K = go (dec_lt k 4096)
+            where
+              go : Dec (k < 4096) → t'.text ≡ t.text
+              go (yes f) = ap (λ (u : Table). u.text) (K.more f)
+              go (no f) = ap (λ (u : Table). u.text) (K.full (omega (arith, P.most)))

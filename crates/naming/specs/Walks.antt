@@ -1,7 +1,7 @@
 -- What the code finds at a place of a readable text: a declaration, or that there are no more.
-use Rattle.std.specs.Prelude.{ℕ, ◌-◌, ◌≤◌, ◌<◌, ◌≡◌, Bool, true, false, List, [], ◌∷◌, length, drop}
+use Rattle.std.specs.Prelude.{ℕ, ◌-◌, ◌≤◌, ◌<◌, ◌≡◌, Bool, true, false, List, [], ◌∷◌, Option, Some, None, Result, Ok, Err, length, drop}
 use Rattle.std.proofs.Math.Option.{none, some}
-use Rattle.std.proofs.Math.Seq.{slice}
+use Rattle.std.specs.List.{slice_range}
 use Rattle.rules.specs.Syntax.{Symbol, functor, predicate}
 use Rattle.text_rules.specs.TextTokens.{tokens}
 use Rattle.text_rules.specs.TextGrammar.{item, unread}
@@ -9,10 +9,9 @@ use Rattle.text_rules.specs.TextWords.{declarations, clause_tokens, declared_twi
 use Rattle.text_rules.specs.TextWords as rules
 use Rattle.text_rules.specs.Text.{text_declarations, place_of}
 use Rattle.naming.specs.declared.declarations.Declaration.{Declaration}
-use Rattle.naming.specs.declared.declarations.Item.{Item}
-use Rattle.naming.specs.declared.declarations.Item.TheVariants as items
-use Rattle.naming.specs.declared.table.Found.{Found}
-use Rattle.naming.specs.declared.table.Found.TheVariants as found
+use Rattle.naming.specs.declared.table.NameError.{NameError}
+use Rattle.naming.specs.declared.table.NameError.TheVariants.{Twice, Many}
+use Rattle.text.specs.Names.{Table}
 use Rattle.naming.specs.Table.{Declared}
 
 abbrev pub symbol_of : Bool → ℕ → Symbol
@@ -21,7 +20,7 @@ symbol_of false k = functor k
 
 abbrev pub declaration_of : List ℕ → Declaration → rules.Declaration
 declaration_of text d =
-    record { symbol = symbol_of d.predicate d.arity; name = slice d.from d.to text; left = length text - d.from }
+    record { symbol = symbol_of d.predicate d.arity; name = slice_range text d.from d.to; left = length text - d.from }
 
 -- A declaration from a place on, and what is left after it.
 pub record Declares (text : List ℕ) (at : ℕ) (d : Declaration) : Type 0 where
@@ -39,9 +38,9 @@ pub record Ends (text : List ℕ) (at : ℕ) : Type 0 where
   pub first : declarations 0 (tokens 0 (drop at text)) ≡ []
   pub clauses : clause_tokens 0 (tokens 0 (drop at text)) ≡ tokens 0 (drop at text)
 
-abbrev pub At : List ℕ → ℕ → Item → Type 0
-At text at (items.Declares d) = Declares text at d
-At text at items.Clauses = Ends text at
+abbrev pub At : List ℕ → ℕ → Option Declaration → Type 0
+At text at (Some d) = Declares text at d
+At text at None = Ends text at
 
 -- n declarations are passed, up to a place.
 pub record Passed (text : List ℕ) (at n : ℕ) : Type 0 where
@@ -58,8 +57,8 @@ pub record Counted (text : List ℕ) (n end : ℕ) : Type 0 where
   pub inside : end ≤ length text
   pub clauses : clause_tokens 0 (tokens 0 text) ≡ tokens 0 (drop end text)
 
--- What the pass over the declarations leaves in the lent lists.
-abbrev pub Result : (text froms tos heads befores symbols : List ℕ) → Found → Type 0
-Result text froms tos heads befores symbols (found.Names n end) = Declared text froms tos heads befores symbols n × Counted text n end
-Result text froms tos heads befores symbols (found.Twice place) = place_of text (declared_twice (text_declarations text) 0 (text_declarations text)) ≡ some place
-Result text froms tos heads befores symbols found.Many = 4096 < length (text_declarations text)
+-- What the pass over the declarations leaves in the table.
+abbrev pub DidDeclare : Table → Result ℕ NameError → Type 0
+DidDeclare t (Ok end) = Declared t × Counted t.text (length t.entries) end
+DidDeclare t (Err (Twice place)) = place_of t.text (declared_twice (text_declarations t.text) 0 (text_declarations t.text)) ≡ some place
+DidDeclare t (Err Many) = 4096 < length (text_declarations t.text)

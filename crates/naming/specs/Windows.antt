@@ -1,15 +1,15 @@
 -- Names declared twice, by windows of 4,096 declarations.
-use Rattle.std.specs.Prelude.{ℕ, ◌+◌, ◌<◌, ◌≡◌, List, [], length, set}
-use Rattle.std.proofs.Math.Option.{Option, none, some}
+use Rattle.std.specs.Prelude.{ℕ, ◌<◌, ◌≡◌, List, [], Option, Some, None, length}
+use Rattle.std.proofs.Math.Option as math
+use Rattle.std.proofs.Math.Option.{none, some}
 use Rattle.std.proofs.Math.ListN.{get_elem?}
 use Rattle.text_rules.specs.TextWords.{Declaration}
 use Rattle.text_rules.specs.Text.{text_declarations, place_of}
-use Rattle.text.specs.Names.{Entered}
-use Rattle.text.specs.declared.grammar.Place.{Place}
-use Rattle.text.specs.declared.grammar.Place.TheVariants.{At, Nowhere}
+use Rattle.text.specs.declared.names.Entry.{Entry}
+use Rattle.text.specs.Names.{Table, entered}
 use Rattle.naming.specs.declared.windows.First.{First}
 
-abbrev pub name_in : Option Declaration → List ℕ
+abbrev pub name_in : math.Option Declaration → List ℕ
 name_in none = []
 name_in (some d) = d.name
 
@@ -26,9 +26,9 @@ pub record Again (text : List ℕ) (c at : ℕ) : Type 0 where
   pub there : get_elem? (text_declarations text) c ≡ some this
   pub place : place_of text (some this.left) ≡ some at
 
-abbrev pub Ended : List ℕ → ℕ → Place → Type 0
-Ended text c (At at) = Again text c at
-Ended text c Nowhere = length (text_declarations text) ≡ c
+abbrev pub Ended : List ℕ → ℕ → Option ℕ → Type 0
+Ended text c (Some at) = Again text c at
+Ended text c None = length (text_declarations text) ≡ c
 
 -- The first declaration that is known to have an earlier one's name, or the end; before it none has the name of one of the first n.
 pub record Known (text : List ℕ) (n : ℕ) (f : First) : Type 0 where
@@ -36,7 +36,6 @@ pub record Known (text : List ℕ) (n : ℕ) (f : First) : Type 0 where
   pub ended : Ended text f.number f.place
 
 -- One name more in the table, as long as there are fewer than 4,096.
-pub record Kept (text froms tos : List ℕ) (n from to : ℕ) (froms' tos' heads' befores' : List ℕ) (r : ℕ) : Type 0 where
-  pub entered : Entered text froms' tos' heads' befores' r
-  pub full : n ≡ 4096 → (r ≡ n) × (froms' ≡ froms) × (tos' ≡ tos)
-  pub more : (n ≡ 4096 → ⊥) → (r ≡ n + 1) × (froms' ≡ set froms n from) × (tos' ≡ set tos n to)
+pub record Kept (t : Table) (e : Entry) (t' : Table) : Type 0 where
+  pub full : length t.entries ≡ 4096 → t' ≡ t
+  pub more : length t.entries < 4096 → t' ≡ entered t e

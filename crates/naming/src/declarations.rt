@@ -7,10 +7,10 @@ ghost use Rattle.text_rules.specs.TextGrammar.{item, unread};
 ghost use Rattle.naming.specs.Walks.{symbol_of, At};
 
 use text::grammar::is_key;
-use text::tokens::next_token;
+use text::tokens::{Kind, next_token};
 
 // The name is the bytes from `from` up to `to`; the declaration ends before `end`.
-#[derive(Drop)]
+#[derive(Clone, Copy, Debug, PartialEq, Eq)]
 pub struct Declaration {
     pub from: usize,
     pub to: usize,
@@ -19,45 +19,45 @@ pub struct Declaration {
     pub end: usize,
 }
 
-#[derive(Drop)]
-pub enum Item {
-    Declares(Declaration),
-    Clauses,
+impl Declaration {
+    // The symbol's word.
+    #[tactic(auto, unfolding(rules::specs::Decks::write_symbol))]
+    pub fn word(&self) -> u16
+        requires { self.now.arity ≤ 15 }
+        ensures { result ≡ write_symbol (symbol_of self.now.predicate self.now.arity) }
+    {
+        if self.predicate {
+            256 + self.arity
+        } else {
+            self.arity
+        }
+    }
 }
 
-// What stands at a place: a declaration, or the first clause or the end.
-pub fn item_at(text: &[u8], at: usize) -> Item
+// The declaration at a place; none where the first clause or the end stands there.
+pub fn item_at(text: &[u8], at: usize) -> Option<Declaration>
     requires { (at ≤ length text.now) × (unread item (tokens 0 (drop at text.now)) ≡ none) }
     ensures { At text.now at result }
 {
     let key = next_token(text, at);
-    let from = key.from;
-    if !is_key(text, key.kind, from, key.to) {
-        return Item::Clauses;
+    if !is_key(text, key) {
+        return None;
     }
     let name = next_token(text, key.to);
-    if name.kind != 2 {
-        return Item::Clauses;
-    }
+    let Kind::Name = name.kind else {
+        return None;
+    };
     let slash = next_token(text, name.to);
-    let arity = next_token(text, slash.to);
-    let dot = next_token(text, arity.to);
-    let predicate = text[from] != 102;
-    Item::Declares(Declaration {
+    let number = next_token(text, slash.to);
+    let Kind::Number(arity) = number.kind else {
+        unreachable!();
+    };
+    let dot = next_token(text, number.to);
+    Some(Declaration {
         from: name.from,
         to: name.to,
-        predicate,
-        arity: arity.value,
+        predicate: text[key.from] != b'f',
+        arity,
         end: dot.to,
     })
-}
-
-pub fn symbol_word(predicate: bool, arity: u16) -> u16
-    requires { arity ≤ 15 }
-    ensures { result ≡ write_symbol (symbol_of predicate arity) }
-{
-    if predicate {
-        return 256 + arity;
-    }
-    arity
 }

@@ -1,4 +1,4 @@
-// The declarations of a text (document 02, U1): their names in a table, and walks without one.
+// The declarations of a text: their names in a table, and walks without one.
 #![tactic(auto)]
 
 pub mod declarations;

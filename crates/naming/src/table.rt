@@ -1,50 +1,44 @@
 // The declared names of a text in a table.
-ghost use Rattle.std.specs.Prelude.{◌≡◌};
+ghost use Rattle.std.specs.Prelude.{◌≡◌, []};
 ghost use Rattle.std.proofs.Math.Option.{none};
 ghost use Rattle.text_rules.specs.TextTokens.{tokens};
 ghost use Rattle.text_rules.specs.TextGrammar.{item, unread};
-ghost use Rattle.naming.specs.Table.{Cleared};
-ghost use Rattle.naming.specs.Walks.{Result};
+ghost use Rattle.naming.specs.Walks.{DidDeclare};
 
-use crate::declarations::{Item, item_at, symbol_word};
-use text::names::{enter, find};
+use crate::declarations::item_at;
+use text::names::{Entry, Names, ROOM};
 
-// The number of declarations and the place after the last one; the place of a name declared for the second time; over 4,096 declarations.
-#[derive(Drop)]
-pub enum Found {
-    Names(usize, usize),
+// A name declared for the second time, at that place; or more declarations than the table has room for.
+#[derive(Clone, Copy, Debug, PartialEq, Eq)]
+pub enum NameError {
     Twice(usize),
     Many,
 }
 
-pub fn declare(
-    text: &[u8],
-    froms: &mut [usize],
-    tos: &mut [usize],
-    heads: &mut [u16],
-    befores: &mut [u16],
-    symbols: &mut [u16],
-) -> Found
-    requires text_value { unread item (tokens 0 text.now) ≡ none }
-    requires cleared { Cleared froms.old tos.old heads.old befores.old symbols.old }
-    ensures { Result text.now froms.new tos.new heads.new befores.new symbols.new result }
+// Enters each declaration's name with its symbol's word; the place after the last declaration.
+pub fn declare(names: &mut Names) -> Result<usize, NameError>
+    requires readable { unread item (tokens 0 names.old.text) ≡ none }
+    requires empty { names.old.entries ≡ [] }
+    ensures did_declare { DidDeclare names.new result }
+    ensures text { names.new.text ≡ names.old.text }
 {
+    let text = names.text();
     let mut at = 0;
-    let mut n = 0;
-    loop {
-        let next = item_at(text, at);
-        let Item::Declares(d) = next else {
-            return Found::Names(n, at);
-        };
-        if n == 4096 {
-            return Found::Many;
+    // A declaration's end is known once it is read, so this is no `for`.
+    while let Some(d) = item_at(text, at) {
+        if names.len() == ROOM {
+            return Err(NameError::Many);
         }
-        if find(text, froms, tos, heads, befores, n, d.from, d.to) != 0 {
-            return Found::Twice(d.from);
+        let known = names.find(&text[d.from..d.to]);
+        if let Some(_) = known {
+            return Err(NameError::Twice(d.from));
         }
-        enter(text, froms, tos, heads, befores, n, d.from, d.to);
-        symbols[n] = symbol_word(d.predicate, d.arity);
-        n += 1;
+        names.enter(Entry {
+            from: d.from,
+            to: d.to,
+            value: usize::from(d.word()),
+        });
         at = d.end;
     }
+    Ok(at)
 }

@@ -6,10 +6,10 @@ ghost use Rattle.text_rules.specs.TextGrammar.{item, unread};
 ghost use Rattle.text_rules.specs.Text.{text_declarations};
 ghost use Rattle.naming.specs.Walks.{Passed, Counted};
 
-use crate::declarations::{Item, item_at};
+use crate::declarations::item_at;
 
-// The number of declarations, and the place after the last one.
-#[derive(Drop)]
+// A number of declarations, and the place after the last one.
+#[derive(Clone, Copy, Debug, PartialEq, Eq)]
 pub struct Size {
     pub count: usize,
     pub end: usize,
@@ -19,38 +19,36 @@ pub fn count(text: &[u8]) -> Size
     requires { unread item (tokens 0 text.now) ≡ none }
     ensures { Counted text.now result.count result.end }
 {
-    let mut at = 0;
-    let mut n = 0;
-    loop {
-        let next = item_at(text, at);
-        let Item::Declares(d) = next else {
-            return Size { count: n, end: at };
+    let mut size = Size { count: 0, end: 0 };
+    // A declaration's end is known once it is read, so this is no `for`.
+    while let Some(d) = item_at(text, size.end) {
+        size = Size {
+            count: size.count + 1,
+            end: d.end,
         };
-        n += 1;
-        at = d.end;
     }
+    size
 }
 
-// The place after the next 4,096 declarations, or after the last one, and the number of those passed.
-pub fn skip(text: &[u8], start: usize, number: usize) -> Size
-    requires { Passed text.now start number }
-    ensures { Passed text.now result.end result.count × (result.count ≤ number + 4096) × (number < length (text_declarations text.now) → number < result.count) }
+// After the next 4,096 declarations, or after the last one.
+pub fn skip(text: &[u8], passed: Size) -> Size
+    requires { Passed text.now passed.end passed.count }
+    ensures passed { Passed text.now result.end result.count }
+    ensures few { result.count ≤ passed.count + 4096 }
+    ensures more { passed.count < length (text_declarations text.now) → passed.count < result.count }
 {
-    let mut at = start;
-    let mut i = 0;
-    while i < 4096 {
-        let next = item_at(text, at);
-        let Item::Declares(d) = next else {
+    let Size { count, mut end } = passed;
+    for i in 0..4096 {
+        let Some(d) = item_at(text, end) else {
             return Size {
-                count: number + i,
-                end: at,
+                count: count + i,
+                end,
             };
         };
-        i += 1;
-        at = d.end;
+        end = d.end;
     }
     Size {
-        count: number + i,
-        end: at,
+        count: count + 4096,
+        end,
     }
 }

@@ -1,3 +1,2 @@
 pub mod InputLaws
 pub mod PartLaws
-pub mod TextLaws

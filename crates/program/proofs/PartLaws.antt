@@ -16,15 +16,24 @@ use Rattle.rules.specs.CarryProgram.{deck_input}
 use Rattle.rules.proofs.DeckLaws.{steps-open}
 use Rattle.rules.proofs.Demand3.{run-accepted}
 use Rattle.program.specs.Runs.{words_run}
-use Rattle.program.proofs.InputLaws.{then-refused, then_next}
+
+-- A check, and then others.
+module _ {A B : Type 0} (c : Checked A) (next : A → Checked B) where
+  pub and_then-refused : (n : Refusal) → c ≡ refused n → and_then c next ≡ refused n
+  unfolding and_then
+  and_then-refused n e = rw e
+
+  pub and_then-accepted : (a : A) → c ≡ accepted a → and_then c next ≡ next a
+  unfolding and_then
+  and_then-accepted a e = rw e
 
 -- The run after the deck's refusals, and then those of the query's bytes.
 abbrev asked_run : List ℕ → List ℕ → Checked Outcome
 asked_run input deck_words = and_then (query_input input) (λ query_words. words_run deck_words query_words)
 
-pub run-parts : (file : Option (List ℕ)) (input : List ℕ) → program_run file input ≡ and_then (deck_input file) (asked_run input)
+program_run-and_then : (file : Option (List ℕ)) (input : List ℕ) → program_run file input ≡ and_then (deck_input file) (asked_run input)
 unfolding program_run deck_input and_then
-run-parts file input = go (deck_file file)
+program_run-and_then file input = go (deck_file file)
   where
     opened : (deck_words : List ℕ) (d : Checked Deck) → and_then d (λ _. asked_run input deck_words) ≡ and_then (and_then d (λ _. accepted deck_words)) (asked_run input)
     opened deck_words (refused n) = refl
@@ -36,17 +45,17 @@ run-parts file input = go (deck_file file)
     go (accepted deck_words) = opened deck_words (open_deck deck_words)
 
 module _ (file : Option (List ℕ)) (input : List ℕ) where
-  pub deck-refused : (n : Refusal) → deck_input file ≡ refused n → program_run file input ≡ refused n
-  deck-refused n e = run-parts file input ∙ then-refused (deck_input file) (asked_run input) n e
+  pub program_run-deck : (n : Refusal) → deck_input file ≡ refused n → program_run file input ≡ refused n
+  program_run-deck n e = program_run-and_then file input ∙ and_then-refused (deck_input file) (asked_run input) n e
 
   module _ (deck_words : List ℕ) (d : deck_input file ≡ accepted deck_words) where
-    pub query-refused : (n : Refusal) → query_input input ≡ refused n → program_run file input ≡ refused n
-    query-refused n e =
-        run-parts file input ∙ then_next (deck_input file) (asked_run input) deck_words d ∙ then-refused (query_input input) (words_run deck_words) n e
+    pub program_run-query : (n : Refusal) → query_input input ≡ refused n → program_run file input ≡ refused n
+    program_run-query n e =
+        program_run-and_then file input ∙ and_then-accepted (deck_input file) (asked_run input) deck_words d ∙ and_then-refused (query_input input) (words_run deck_words) n e
 
-    pub query-asked : (query_words : List ℕ) → query_input input ≡ accepted query_words → program_run file input ≡ words_run deck_words query_words
-    query-asked query_words e =
-        run-parts file input ∙ then_next (deck_input file) (asked_run input) deck_words d ∙ then_next (query_input input) (words_run deck_words) query_words e
+    pub program_run-words : (query_words : List ℕ) → query_input input ≡ accepted query_words → program_run file input ≡ words_run deck_words query_words
+    program_run-words query_words e =
+        program_run-and_then file input ∙ and_then-accepted (deck_input file) (asked_run input) deck_words d ∙ and_then-accepted (query_input input) (words_run deck_words) query_words e
 
 -- The run on the program's buffers.
 pub record Buffers (s : Slices) : Type 0 where

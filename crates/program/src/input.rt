@@ -1,34 +1,35 @@
-// The refusals of a program's two inputs.
-ghost use Rattle.std.specs.Prelude.{◌≡◌};
-ghost use Rattle.rules.specs.Refusals.{checked_number};
+// The words of a program's two inputs.
 ghost use Rattle.rules.specs.Program.{query_input};
 ghost use Rattle.rules.specs.CarryProgram.{deck_input};
 ghost use Rattle.listing.specs.Printed.{file_of};
+ghost use Rattle.program_parts.specs.Answers.{ComesTo};
 
-use listing::input::{deck_fits, read_words};
+use deck::Refusal;
+use listing::input::read_words;
+use program_parts::deck_words;
 
-// Refusals 1 to 5 of the deck file, by number; 0 where its words open. `present` says that the file is there.
-pub fn deck_refusal(present: bool, file: &[u8]) -> u32
-    ensures { result ≡ checked_number (deck_input (file_of present file.now)) }
+// The words of the deck file, if there is one, and if they open: else refusals 1 to 5.
+pub fn opened_deck<'a>(
+    file: Option<&[u8]>,
+    words: &'a mut [u16; 16384],
+) -> Result<&'a [u16], Refusal>
+    ensures { ComesTo (deck_input (file_of file.entry)) result }
 {
-    if !deck_fits(present, file) {
-        return 1;
-    }
-    let mut words = [0u16; 16384];
-    let n = read_words(file, &mut words);
-    deck::number(deck::open(&words[..n]))
+    let words = deck_words(file, words)?;
+    deck::open(words)?;
+    Ok(words)
 }
 
-// Refusals 6 and 7 of the query by its bytes; 0 where they are words.
-pub fn query_refusal(query: &[u8]) -> u32
-    ensures { result ≡ checked_number (query_input query.now) }
+// The words of the query: else refusals 6 and 7 by its bytes.
+pub fn query_words<'a>(query: &[u8], words: &'a mut [u16; 500]) -> Result<&'a [u16], Refusal>
+    ensures { ComesTo (query_input query.now) result }
 {
     if 1000 < query.len() {
-        return 6;
+        return Err(Refusal::LongQuery);
     }
-    let odd = query.len() % 2;
-    if odd != 0 {
-        return 7;
+    if !query.len().is_multiple_of(2) {
+        return Err(Refusal::Query);
     }
-    0
+    let n = read_words(query, words);
+    Ok(&words[..n])
 }

@@ -5,7 +5,7 @@ ghost use Rattle.std.specs.Prelude.{ℕ, List, OnOk};
 ghost use Rattle.std.specs.Io.KnownBytes.{Appends, Consumes};
 ghost use Rattle.text_rules.specs.TextProgram.{read_program};
 
-use bytes_io::read_full;
+use bytes_io::taken;
 use std::io;
 use std::io::{Read, Write};
 
@@ -20,9 +20,9 @@ fn answer<T: Read, W: Write>(input: &mut T, to: &mut W) -> io::Result<()>
         × Consumes (T.remaining input.old) (T.remaining input.new) text
         × Appends (W.contents to.old) (W.contents to.new) (read_program text)) }
 {
-    let mut text = [0u8; 262145];
+    let mut room = [0u8; 262145];
     let mut out = [0u8; 32768];
-    let t = read_full(input, &mut text);
-    let n = text_program::read_printed(&text[..t], &mut out);
+    let text = taken(input, &mut room);
+    let n = text_program::read_printed(text, &mut out);
     to.write_all(&out[..n])
 }

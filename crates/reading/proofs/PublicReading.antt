@@ -16,10 +16,10 @@ use Rattle.text_rules.specs.TextWriter.{deck_text}
 use Rattle.text_rules.specs.Text.{text_words, bad_place, absent, read_text}
 use Rattle.text_rules.proofs.TextRead.{text-again}
 use Rattle.deck.specs.declared.Refusal.{Refusal as Why}
-use Rattle.deck.specs.declared.Checked.TheVariants as checked
 use Rattle.deck.specs.Answers.{number_of, refusal_for}
-use Rattle.reading.specs.declared.Read.{Read}
-use Rattle.reading.specs.declared.Read.TheVariants.{Words, Unreadable, Refused}
+use Rattle.std.specs.Prelude.{Result, Ok, Err}
+use Rattle.reading.specs.declared.ReadError.{ReadError}
+use Rattle.reading.specs.declared.ReadError.TheVariants.{Unreadable, Refused}
 use Rattle.reading.specs.Reads.{result_of, count_of, DidRead}
 use Rattle.reading.proofs.ResultLaws.{fitting}
 use Rattle.reading.specs.contracts.read_text.{signature, ended}
@@ -42,7 +42,7 @@ reading-says text room = go (absent (bad_place text)) (fitting text room) (open_
     go true true (refused n) e = λ l. e
     go true true (accepted d) e = (refl, (d, e))
 
-module _ (text before : List ℕ) (r : Read) (after : List ℕ) (did : DidRead text before r after) where
+module _ (text before : List ℕ) (r : Result ℕ ReadError) (after : List ℕ) (did : DidRead text before r after) where
   abbrev rule : Checked (List ℕ)
   rule = read_text text (length before)
 
@@ -52,7 +52,7 @@ module _ (text before : List ℕ) (r : Read) (after : List ℕ) (did : DidRead t
   counted n (refused m) e q = let z : ◌≡◌ {A = ℕ} 0 1 = cc in absurd (omega arith)
   counted n (accepted words) e q = (words, e, cc)
 
-  module _ (n : ℕ) (e : r ≡ Words n) where
+  module _ (n : ℕ) (e : r ≡ Ok n) where
     its : (words : List ℕ) × (rule ≡ accepted words) × (n ≡ length words)
     its = counted n rule refl (sym (ap result_of e) ∙ did.returns)
 
@@ -78,20 +78,20 @@ module _ (text before : List ℕ) (r : Read) (after : List ℕ) (did : DidRead t
   refusing why (refused m) q = cc
   refusing why (accepted words) q = let z : ◌≡◌ {A = ℕ} 0 1 = cc in absurd (omega arith)
 
-  pub read-refusal : (why : Why) → r ≡ Refused why → number_of (checked.Refused why) ≤ 5 → checked_number (open_deck (text_words text)) ≡ number_of (checked.Refused why)
+  pub read-refusal : (why : Why) → r ≡ Err (Refused why) → number_of (Err why) ≤ 5 → checked_number (open_deck (text_words text)) ≡ number_of (Err why)
   read-refusal why e l =
       let o = refusing why rule (sym (ap result_of e) ∙ did.returns) in
       ap checked_number (subst (Says text) o (reading-says text (length before)) (omega arith))
 
   -- READING WHAT WAS WRITTEN: of a text that is an openable deck's, the words come back, in any list with room for them.
-  is-words : (n : ℕ) (s : Read) → result_of s ≡ accepted n → s ≡ Words n
-  is-words n (Words m) q = cc
-  is-words n (Unreadable p) q = let z : ◌≡◌ {A = ℕ} 0 1 = cc in absurd (omega arith)
-  is-words n (Refused why) q = let z : ◌≡◌ {A = ℕ} 0 1 = cc in absurd (omega arith)
+  is-words : (n : ℕ) (s : Result ℕ ReadError) → result_of s ≡ accepted n → s ≡ Ok n
+  is-words n (Ok m) q = cc
+  is-words n (Err (Unreadable p)) q = let z : ◌≡◌ {A = ℕ} 0 1 = cc in absurd (omega arith)
+  is-words n (Err (Refused why)) q = let z : ◌≡◌ {A = ℕ} 0 1 = cc in absurd (omega arith)
 
   pub read_again :
       (words : List ℕ) (d : Deck) → open_deck words ≡ accepted d → text ≡ deck_text d → length words ≤ length before
-      → (r ≡ Words (length words)) × (after ≡ words ++ drop (length words) before)
+      → (r ≡ Ok (length words)) × (after ≡ words ++ drop (length words) before)
   unfolding count_of
   read_again words d o t l =
       let again : rule ≡ accepted words = ap (λ bs. read_text bs (length before)) t ∙ (text-again words d o (length (deck_text d)) (length before) (omega arith) l).1 in
@@ -99,15 +99,15 @@ module _ (text before : List ℕ) (r : Read) (after : List ℕ) (did : DidRead t
 
 -- The same of the generated reading of the contract (`Post`).
 module _ (κs : Lfts 2) (entry : ArgsD signature κs) (exit : AtExit ended κs) where
-  pub public-opens : (n : ℕ) → Post κs entry (Words n) exit → (d : Deck) × (open_deck (take n exit.1.0.now) ≡ accepted d)
-  public-opens n post = read-opens entry.0.now entry.1.0.now (Words n) exit.1.0.now post n refl
+  pub public-opens : (n : ℕ) → Post κs entry (Ok n) exit → (d : Deck) × (open_deck (take n exit.1.0.now) ≡ accepted d)
+  public-opens n post = read-opens entry.0.now entry.1.0.now (Ok n) exit.1.0.now post n refl
 
   pub public-refusal :
-      (why : Why) → Post κs entry (Refused why) exit → number_of (checked.Refused why) ≤ 5
-      → checked_number (open_deck (text_words entry.0.now)) ≡ number_of (checked.Refused why)
-  public-refusal why post = read-refusal entry.0.now entry.1.0.now (Refused why) exit.1.0.now post why refl
+      (why : Why) → Post κs entry (Err (Refused why)) exit → number_of (Err why) ≤ 5
+      → checked_number (open_deck (text_words entry.0.now)) ≡ number_of (Err why)
+  public-refusal why post = read-refusal entry.0.now entry.1.0.now (Err (Refused why)) exit.1.0.now post why refl
 
   pub public-again :
-      (r : Read) → Post κs entry r exit → (words : List ℕ) (d : Deck) → open_deck words ≡ accepted d → entry.0.now ≡ deck_text d
-      → length words ≤ length entry.1.0.now → (r ≡ Words (length words)) × (exit.1.0.now ≡ words ++ drop (length words) entry.1.0.now)
+      (r : Result ℕ ReadError) → Post κs entry r exit → (words : List ℕ) (d : Deck) → open_deck words ≡ accepted d → entry.0.now ≡ deck_text d
+      → length words ≤ length entry.1.0.now → (r ≡ Ok (length words)) × (exit.1.0.now ≡ words ++ drop (length words) entry.1.0.now)
   public-again r post = read_again entry.0.now entry.1.0.now r exit.1.0.now post

@@ -1,5 +1,5 @@
 -- What reading comes to, test by test.
-use Prim.Native.Nat.{ℕ, ◌+◌, ◌-◌, ◌≤◌, ◌<◌}
+use Prim.Native.Nat.{ℕ, ◌+◌, ◌≤◌, ◌<◌}
 use mathlib.Core.Path.{◌≡◌, refl, ap, sym, ◌∙◌}
 use mathlib.Core.Bool.{Bool, true, false, ◌&&◌, and-eq-true_iff}
 use mathlib.Core.Option.{Option, none, some}
@@ -8,28 +8,32 @@ use native.Mathlib.Omega.{arith}
 use lib.ListN.{length, take, drop, length-append, length-drop}
 use lib.Seq.{take-append_seam}
 use lib.Dec.{leb}
-use borrow.Author.Tests.{le-leb, lt-leb, leb-true}
-use Rattle.rules.specs.Syntax.{Deck}
+use borrow.Author.Tests.{leb-true}
+use Rattle.rules.specs.Syntax.{Symbol, functor, predicate, Deck}
 use Rattle.rules.specs.Refusals.{Refusal, bad_text, no_room, refusal_number, Checked, refused, accepted, and_then, require, checked_number}
-use Rattle.rules.specs.Decks.{header_words, header, header_fits, symbol_words, clause_words, term_cells, read_symbol, read_clause, read_all, starts_fit, clause_rows, rows_short, open_deck}
+use Rattle.rules.specs.Decks.{write_symbol, header_words, header, header_fits, symbol_words, clause_words, term_cells, read_symbol, read_clause, read_all, starts_fit, clause_rows, rows_short, open_deck}
 use Rattle.text_rules.specs.TextTokens.{tokens}
 use Rattle.text_rules.specs.TextGrammar.{item, unread}
-use Rattle.text_rules.specs.TextWords.{declared_twice, misused, deck_from}
+use Rattle.text_rules.specs.TextWords.{arity, declared_twice, misused, deck_from}
 use Rattle.text_rules.specs.Text.{text_declarations, text_entries, text_words, or_else, bad_left, place_of, bad_place, absent, read_text}
 use Rattle.deck.specs.declared.Refusal.{Refusal as Why}
 use Rattle.deck.specs.declared.Refusal.TheVariants.{Room}
-use Rattle.deck.specs.declared.Checked.TheVariants as checked
 use Rattle.deck.specs.Answers.{number_of, refusal_for}
 use Rattle.deck.specs.Answers.{found}
 use Rattle.deck.specs.Kinds.{symbols_of}
 use Rattle.deck.proofs.OpenLaws.{unless, fails, clauses_number, short_number, starts_number, symbols_number, open-number}
 use Rattle.deck.proofs.RefusalLaws.{number-accepts, number-refuses}
 use Rattle.rules.proofs.DeckLaws.{fit-facts}
+use Rattle.text.specs.Names.{Table, entry_at}
+use Rattle.naming.specs.Table.{Declared}
 use Rattle.naming.specs.Walks.{Counted}
+use Rattle.naming.proofs.ArityLaws.{arity-small}
+use Rattle.naming.proofs.FindLaws.{is-there}
 use Rattle.encoding.specs.declared.sizes.Sizes.{Sizes}
 use Rattle.encoding.specs.Walk.{Sized}
 use Rattle.encoding.proofs.EncodeLaws.{words-length}
-use Rattle.reading.specs.declared.Read.TheVariants.{Words, Unreadable, Refused}
+use Rattle.std.specs.Prelude.{Ok, Err}
+use Rattle.reading.specs.declared.ReadError.TheVariants.{Unreadable, Refused}
 use Rattle.reading.specs.Reads.{count_of, DidRead}
 
 -- Refusal 10 and its place.
@@ -126,7 +130,7 @@ accepted-same : {A : Type 0} {a b : A} → accepted a ≡ accepted b → a ≡ b
 accepted-same e = cc
 
 module _ (text before : List ℕ) where
-  pub did-bad : (p : ℕ) → bad_place text ≡ some p → DidRead text before (Unreadable p) before
+  pub did-bad : (p : ℕ) → bad_place text ≡ some p → DidRead text before (Err (Unreadable p)) before
   unfolding count_of
   did-bad p e =
       let r = read-bad text (length before) p e in
@@ -139,7 +143,7 @@ module _ (text before : List ℕ) where
       }
 
   module _ (e : bad_place text ≡ none) where
-    pub did-full : fitting text (length before) ≡ false → DidRead text before (Refused Room) before
+    pub did-full : fitting text (length before) ≡ false → DidRead text before (Err (Refused Room)) before
     unfolding count_of
     did-full f =
         let r = read-full text (length before) e f in
@@ -153,8 +157,8 @@ module _ (text before : List ℕ) where
 
     module _ (f : fitting text (length before) ≡ true) (after : List ℕ) where
       pub did-refuse :
-          (why : Why) → number_of (checked.Refused why) ≡ checked_number (open_deck (text_words text)) → length after ≡ length before
-          → DidRead text before (Refused why) after
+          (why : Why) → number_of (Err why) ≡ checked_number (open_deck (text_words text)) → length after ≡ length before
+          → DidRead text before (Err (Refused why)) after
       unfolding count_of
       did-refuse why o l =
           let r = read-refused text (length before) e f (refusal_for why) (number-refuses why (open_deck (text_words text)) o) in
@@ -166,7 +170,7 @@ module _ (text before : List ℕ) where
             untouched = λ n q m. let s : n ≡ refusal_for why = refused-same (sym q ∙ r) in absurd (omega (arith, ap refusal_number s, o, open-most (text_words text)));
           }
 
-      pub did_read : 0 ≡ checked_number (open_deck (text_words text)) → after ≡ text_words text ++ drop (length (text_words text)) before → DidRead text before (Words (length (text_words text))) after
+      pub did_read : 0 ≡ checked_number (open_deck (text_words text)) → after ≡ text_words text ++ drop (length (text_words text)) before → DidRead text before (Ok (length (text_words text))) after
       unfolding count_of
       did_read o w =
           let d = number-accepts (open_deck (text_words text)) o in
@@ -192,20 +196,6 @@ many-symbols text l = sym (open-number (text_words text) ∙ fails (header_fits 
     go true e = absurd (omega (arith, symbol-count text, (fit-facts (text_words text) e).few_symbols))
     go false e = e
 
--- A total that is too large, or not.
-and-false : (a : Bool) → a && false ≡ false
-and-false true = refl
-and-false false = refl
-
-pub over-most : (t room : ℕ) → 16384 < t → (leb t room && leb t 16384) ≡ false
-over-most t room h = rw (lt-leb t 16384 h) (and-false (leb t room))
-
-pub over-room : (t room : ℕ) → room < t → (leb t room && leb t 16384) ≡ false
-over-room t room h = rw (lt-leb t room h) refl
-
-pub within-room : (t room : ℕ) → t ≤ room → (leb t room && leb t 16384) ≡ leb t 16384
-within-room t room h = rw (le-leb t room h) refl
-
 -- The sizes that the code counts.
 module _ (text : List ℕ) (n end : ℕ) (s : Sizes) (c : Counted text n end) (z : Sized (text_entries text) s) where
   pub size-total : 8 + n + s.clauses + s.cells ≡ length (text_words text)
@@ -227,5 +217,16 @@ module _ (text : List ℕ) (n end : ℕ) (s : Sizes) (c : Counted text n end) (z
     total-most = omega (arith, size-total, leb-true (length (text_words text)) 16384 within.1)
 
 -- The words in front of a list.
-pub front-words : (ws rest after : List ℕ) (k : ℕ) → after ≡ ws ++ rest → k ≡ length ws → take (k - 0) (drop 0 after) ≡ ws
-front-words ws rest after k e f = let z : k - 0 ≡ length ws = omega arith in rw (z, e) (take-append_seam ws rest)
+pub front-words : (ws rest after : List ℕ) (k : ℕ) → after ≡ ws ++ rest → k ≡ length ws → take k after ≡ ws
+front-words ws rest after k e f = rw (f, e) (take-append_seam ws rest)
+
+-- The words of a readable text's symbols.
+word_small : (x : Symbol) → arity x ≤ 15 → write_symbol x < 65536
+unfolding write_symbol
+word_small (functor a) h = omega arith
+word_small (predicate a) h = omega arith
+
+pub word-small : (t : Table) → Declared t → unread item (tokens 0 t.text) ≡ none → (j : ℕ) → j < length t.entries → (entry_at t j).value < 65536
+word-small t D e j h =
+    let x = is-there (text_declarations t.text) j (omega (arith, D.count)) in
+    omega (arith, D.symbol j x.0 x.1, word_small x.0.symbol (arity-small t.text e j x.0 x.1))

@@ -1,12 +1,8 @@
 // What an accepted run returns.
 #![tactic(auto)]
 
-ghost use Rattle.std.specs.Prelude.{◌≡◌};
-ghost use Rattle.rules.specs.Evaluation.{stop_number};
-ghost use Rattle.report.specs.Reports.{stop_of};
-
 // Why a run stops.
-#[derive(Clone, Copy)]
+#[derive(Clone, Copy, Debug, PartialEq, Eq)]
 pub enum Stop {
     Finished,
     Budget,
@@ -15,7 +11,7 @@ pub enum Stop {
 }
 
 // The stop, the steps used over all levels and their cost, and the numbers of answers, pending and parked goals.
-#[derive(Clone, Copy)]
+#[derive(Clone, Copy, Debug, PartialEq, Eq)]
 pub struct Report {
     pub stop: Stop,
     pub steps: u32,
@@ -26,13 +22,19 @@ pub struct Report {
 }
 
 // The number of a stop: 0 finished, 1 budget, 2 answers, 3 store.
-pub fn stop_number(stop: Stop) -> u32
-    ensures { result ≡ stop_number (stop_of stop) }
-{
-    match stop {
-        Stop::Finished => 0,
-        Stop::Budget => 1,
-        Stop::Answers => 2,
-        Stop::Store => 3,
+impl From<Stop> for u32 {
+    ghost use Rattle.std.specs.Prelude.{◌≡◌};
+    ghost use Rattle.rules.specs.Evaluation.{stop_number};
+    ghost use Rattle.report.specs.Reports.{stop_of};
+
+    ghost from_gives = { λ stop number. number ≡ stop_number (stop_of stop) };
+
+    fn from(stop: Stop) -> u32 {
+        match stop {
+            Stop::Finished => 0,
+            Stop::Budget => 1,
+            Stop::Answers => 2,
+            Stop::Store => 3,
+        }
     }
 }

@@ -29,7 +29,8 @@ use Rattle.resolvents.specs.Naming.{within}
 use Rattle.resolvents.specs.Variables.{fresh_cell}
 use Rattle.resolvents.specs.Deriving.{Calls, About, equations_of, IsAttempt}
 use Rattle.resolvents.specs.Child.{AttemptedBy, place_after, literals_before, Together}
-use Rattle.resolvents.specs.declared.resolve.Attempt.{Attempt}
+use Rattle.resolvents.specs.declared.resolve.Resolved.{Resolved}
+use Rattle.std.specs.Prelude as std
 use Rattle.resolvents.proofs.CellTrees.{lit_terms, lits-append, lits-sizes, lits-vars, lits-renames, join-fits, split-fits, goal_terms, goal-cells, goal-vars, clause_terms, clause-cells, Known, positive-known, literals-fit}
 use Rattle.resolvents.proofs.RowLaws.{Stands, stands-room, stands_from, stands-taken, stands-within, stands_after, stands-first, stands-second, stands-cell, stands-arguments, terms-formed, terms-fresh, renames-fit, fresh-tops, cells-below, goal-fits, goal-few}
 use Rattle.resolvents.proofs.ResolventLaws.{attempted-resolvent}
@@ -150,9 +151,9 @@ module _ {ar cells clause : List ℕ} {size answers s e n : ℕ} {S : List Symbo
     goal-kept = ap (take size) w ∙ sets-before cells (map (fresh_cell n) clause) size fresh-room
 
     -- The part that starts at 0 and ends after both.
-    pub both-cells : take (size + length clause - 0) cells' ≡ take size cells ++ map (fresh_cell n) clause
+    pub both-cells : take (size + length clause) cells' ≡ take size cells ++ map (fresh_cell n) clause
     both-cells =
-        let e : size + length clause - 0 ≡ size + length (map (fresh_cell n) clause) = omega (arith, length-map clause (fresh_cell n)) in
+        let e : size + length clause ≡ size + length (map (fresh_cell n) clause) = omega (arith, length-map clause (fresh_cell n)) in
         ap₂ take e w ∙ sets-through cells (map (fresh_cell n) clause) size fresh-room
 
   -- The variables: at most 1,024 of the goal, and 256 of the clause.
@@ -204,7 +205,7 @@ module _ {ar cells clause : List ℕ} {size answers s e n : ℕ} {S : List Symbo
 
   -- Where they are different symbols there is no resolvent, and one equation is taken.
   pub call-differs :
-      (left : ℕ) (child : List ℕ) (r : Attempt) → 0 < args_of ar (get_or cells s 0)
+      (left : ℕ) (child : List ℕ) (r : std.Option (Resolved × ℕ)) → 0 < args_of ar (get_or cells s 0)
       → (get_or cells (s + 1) 0 < 32768) × (get_or clause 1 0 < 32768) × (get_or cells (s + 1) 0 ≡ get_or clause 1 0 → ⊥)
       → IsAttempt none 1 left child r → IsAttempt (resolvent n g.answers before ts after c) (equations_of n ts c) left child r
   unfolding resolvent resolved write_clause
@@ -313,7 +314,7 @@ module _ {ar cells clause : List ℕ} {size answers s e n : ℕ} {S : List Symbo
 
     -- What is written of them is the resolvent.
     pub call-resolved :
-        {number : ℕ} (w : number ≡ args_of ar (get_or cells s 0)) (left : ℕ) (child : List ℕ) (r : Attempt)
+        {number : ℕ} (w : number ≡ args_of ar (get_or cells s 0)) (left : ℕ) (child : List ℕ) (r : std.Option (Resolved × ℕ))
         → AttemptedBy (unify (take_t number (from ar both (s + 1))) (take_t number (from ar both (size + 1)))) left (within ar both 0 answers) (literals_before ar both size answers s e) child r
         → IsAttempt (resolvent n g.answers before ts after c) (equations_of n ts c) left child r
     unfolding resolvent

@@ -1,10 +1,10 @@
 -- The derived goal's words: its terms written one range after another under one numbering, and then its two first words.
-use Prim.Native.Nat.{ℕ, suc, ◌+◌, ◌≤◌}
+use Prim.Native.Nat.{ℕ, suc, ◌+◌, ◌-◌, ◌≤◌}
 use mathlib.Core.Path.{◌≡◌, refl, sym, ◌∙◌, ap, ap₂, subst}
 use mathlib.Core.List.{List, [], ◌∷◌}
 use native.Mathlib.Omega.{arith}
-use lib.ListN.{length, take, drop, set, replicate, length-replicate, get_or-replicate}
-use lib.Seq.{sets, sets-eq, take-append_seam, ext_get_or}
+use lib.ListN.{length, take, drop, set}
+use lib.Seq.{sets, sets-eq, take-append_seam}
 use Rattle.rules.specs.Terms.{Terms, ◌+++◌, sizes}
 use Rattle.rules.specs.Unification.{Unification, fails, solved, equations, applys}
 use Rattle.rules.proofs.TermLaws.{sizes-join, join-assoc}
@@ -12,53 +12,40 @@ use Rattle.matching.specs.Taking.{drop_t}
 use Rattle.matching.specs.Cells.{from, term_at}
 use Rattle.matching.specs.Bindings.{elims, Ready}
 use Rattle.matching.proofs.CellLaws.{from_cons}
-use Rattle.resolvents.specs.Naming.{within, Named, order_after, cells_under, Wrote}
-use Rattle.matching.specs.Tables.{bind_of, trail_of, marks_of}
-use Rattle.matching.proofs.TableLaws.{part_length}
-use Rattle.resolvents.specs.Drafts.{names_of, order_of}
-use Rattle.resolvents.specs.Deriving.{Rows}
-use Rattle.resolvents.specs.Child.{range_after, literals_after, Onward, Adds, width_of, Past, Finished, Unnamed, IsChild, DerivedBy, place_after, literals_before, Together}
-use Rattle.resolvents.specs.declared.put.Put.{Put}
-use Rattle.resolvents.specs.declared.put.Put.TheVariants.{To, Full}
+use Rattle.resolvents.specs.Naming.{within, order_after, cells_under, Wrote}
+use Rattle.resolvents.specs.Child.{range_after, literals_after, IsChild, DerivedBy, place_after, literals_before, Together}
+use Rattle.std.specs.Prelude.{Result, Ok, Err}
+use Rattle.resolvents.specs.declared.put.Full.{Full}
 use Rattle.resolvents.specs.declared.resolve.Resolved.{Resolved}
-use Rattle.resolvents.specs.declared.resolve.Resolved.TheVariants.{Nothing}
-use Rattle.resolvents.proofs.NamingLaws.{named_none}
-use Rattle.resolvents.proofs.WroteLaws.{length-under}
+use Rattle.resolvents.specs.declared.resolve.Resolved.TheVariants.{Nothing, Child, Oversized}
+use Rattle.resolvents.proofs.WroteLaws.{length-under, wrote-join, wrote-full, wrote-length}
 use Rattle.resolvents.proofs.WalkLaws.{applys-append}
 use Rattle.resolvents.proofs.RowLaws.{skipped}
 
--- NAMES
-pub unnamed : {names : List ℕ} (n : ℕ) → names ≡ replicate n 65535 → Unnamed names
-unnamed n e = rw e (λ v l. get_or-replicate n v 65535 0 (omega (arith, length-replicate {A = ℕ} n 65535)))
+-- WHAT IS WRITTEN
+-- The answer terms, and then three ranges of literals.
+module _ {out order out₁ names₁ order₁ : List ℕ} {m m₁ e : ℕ} {ans : Terms} (w : Wrote out order 2 m ans out₁ names₁ order₁ m₁ (Ok e)) where
+  pub goal-narrow : 2 ≤ e
+  goal-narrow = omega (arith, w.tells.0)
 
-pub start-named : (names order : List ℕ) → Unnamed names → length names ≤ 32768 → length names ≤ length order → Named names order 0
-start-named names order u h k =
-    let n = length names in
-    let e : names ≡ replicate n 65535 = ext_get_or 0 names (replicate n 65535) (sym (length-replicate {A = ℕ} n 65535)) (λ v l. u v l ∙ sym (get_or-replicate n v 65535 0 l)) in
-    subst (λ xs. Named xs order 0) (sym e) (named_none n order h k)
+  pub goal-width : e - 2 ≡ sizes ans
+  goal-width = omega (arith, w.tells.0)
 
--- WHAT IS WRITTEN SO FAR
-module _ {out order : List ℕ} {m : ℕ} {ts : Terms} {out' names' order' : List ℕ} where
-  pub wrote-onward : {to : ℕ} (r : Put) → Wrote out order to m ts out' names' order' r → length out' ≡ length out → Onward out' names' order' r
-  wrote-onward (To e k) w l = record { named = w.kept; reached = omega (arith, w.tells.1) }
-  wrote-onward (Full k) w l = record { named = w.kept; reached = tt }
+  module _ {out₂ names₂ order₂ : List ℕ} {m₂ : ℕ} {bs : Terms} where
+    -- The first does not fit.
+    pub goal-first-full : {why : Full} (ds cs : Terms) → Wrote out₁ order₁ e m₁ bs out₂ names₂ order₂ m₂ (Err why) → Wrote out order 2 m (ans +++ (bs +++ (ds +++ cs))) out₂ names₂ order₂ m₂ (Err why)
+    goal-first-full ds cs v = subst (λ ts. Wrote out order 2 m ts out₂ names₂ order₂ m₂ (Err _)) (join-assoc ans bs (ds +++ cs)) (wrote-full (ds +++ cs) (wrote-join w v))
 
-  pub wrote-past : (r : Put) → Wrote out order 2 m ts out' names' order' r → Past r
-  wrote-past (To e k) w = omega (arith, w.tells.0)
-  wrote-past (Full k) w = tt
+    module _ {e₂ : ℕ} (v : Wrote out₁ order₁ e m₁ bs out₂ names₂ order₂ m₂ (Ok e₂)) {out₃ names₃ order₃ : List ℕ} {m₃ : ℕ} {ds : Terms} where
+      -- The second does not.
+      pub goal-second-full : {why : Full} (cs : Terms) → Wrote out₂ order₂ e₂ m₂ ds out₃ names₃ order₃ m₃ (Err why) → Wrote out order 2 m (ans +++ (bs +++ (ds +++ cs))) out₃ names₃ order₃ m₃ (Err why)
+      goal-second-full cs u =
+          subst (λ ts. Wrote out order 2 m ts out₃ names₃ order₃ m₃ (Err _)) (join-assoc (ans +++ bs) ds cs ∙ join-assoc ans bs (ds +++ cs)) (wrote-full cs (wrote-join (wrote-join w v) u))
 
-  pub wrote-width : (r : Put) → Wrote out order 2 m ts out' names' order' r → width_of r ≤ length out
-  wrote-width (To e k) w = omega (arith, w.tells.1)
-  wrote-width (Full k) w = omega arith
-
--- One list and then another is written after what was written.
-pub adds-join :
-    {out names order : List ℕ} {p : Put} {us vs : Terms} {out₁ names₁ order₁ out₂ names₂ order₂ : List ℕ} {q r : Put}
-    → Adds out names order p us out₁ names₁ order₁ q → Adds out₁ names₁ order₁ q vs out₂ names₂ order₂ r → Adds out names order p (us +++ vs) out₂ names₂ order₂ r
-adds-join {us = us} {vs} {out₂ = out₂} {names₂} {order₂} {r = r} f g = record {
-  added = λ out₀ order₀ to m ts w. subst (λ ws. Wrote out₀ order₀ to m ws out₂ names₂ order₂ r) (join-assoc ts us vs) (g.added out₀ order₀ to m (ts +++ us) (f.added out₀ order₀ to m ts w));
-  onward = g.onward;
-}
+      -- The third.
+      pub goal-all : {e₃ : ℕ} → Wrote out₂ order₂ e₂ m₂ ds out₃ names₃ order₃ m₃ (Ok e₃) → {out₄ names₄ order₄ : List ℕ} {m₄ : ℕ} {cs : Terms} {r : Result ℕ Full} → Wrote out₃ order₃ e₃ m₃ cs out₄ names₄ order₄ m₄ r → Wrote out order 2 m (ans +++ (bs +++ (ds +++ cs))) out₄ names₄ order₄ m₄ r
+      goal-all u {out₄} {names₄} {order₄} {m₄} {cs} {r} x =
+          subst (λ ts. Wrote out order 2 m ts out₄ names₄ order₄ m₄ r) (join-assoc (ans +++ bs) ds cs ∙ join-assoc ans bs (ds +++ cs)) (wrote-join (wrote-join (wrote-join w v) u) x)
 
 -- THE WORDS
 -- Two words before the others.
@@ -69,32 +56,28 @@ framed (x ∷ y ∷ zs) xs a b h =
     ap (λ l. take (suc (suc (length xs))) (set (set l 0 a) 1 b)) (sets-eq xs (x ∷ y ∷ zs) 2 h)
     ∙ ap (λ l. a ∷ b ∷ l) (take-append_seam xs (drop (2 + length xs) (x ∷ y ∷ zs)))
 
-module _ {out order : List ℕ} (A L all : Terms) (same : all ≡ A +++ L) {out₁ names₁ order₁ out₂ names₂ order₂ : List ℕ} (long : length out ≡ 1024) where
-  pub child-written :
-      (first last : Put) (width : ℕ) (r : Resolved) (child : List ℕ) → Wrote out order 2 0 A out₁ names₁ order₁ first → Wrote out order 2 0 all out₂ names₂ order₂ last
-      → width ≡ width_of first → Finished last width out₂ child r → IsChild A L child r
-  child-written first (Full k) width r child v w e f =
-      subst (IsChild A L child) (sym f) (omega (arith, w.tells, ap sizes same))
-  child-written (Full j) (To end k) width r child v w e f = absurd (omega (arith, v.tells, w.tells.0, w.tells.1, ap sizes same, sizes-join A L))
-  child-written (To at j) (To end k) width r child v w e f =
-      subst (IsChild A L child) (sym f.0) (
-        omega (arith, w.tells.0, ap sizes same),
-        omega (arith, w.tells.1),
-        words,
-      )
+module _ {out order : List ℕ} (A L : Terms) {out' names' order' : List ℕ} {m' : ℕ} (long : length out ≡ 1024) where
+  pub child-oversized : {m : ℕ} {why : Full} (child : List ℕ) → Wrote out order 2 m (A +++ L) out' names' order' m' (Err why) → IsChild A L child Oversized
+  child-oversized child w = omega (arith, w.tells)
+
+  pub child-narrow : {m end width : ℕ} → width ≡ sizes A → Wrote out order 2 m (A +++ L) out' names' order' m' (Ok end) → (width ≤ 1024) × (end ≤ 1024) × (length out' ≡ 1024)
+  child-narrow wide w = (omega (arith, w.tells.0, w.tells.1, sizes-join A L), omega (arith, w.tells.1), wrote-length w ∙ long)
+
+  pub child-written : {m end width : ℕ} → m ≡ 0 → width ≡ sizes A → Wrote out order 2 m (A +++ L) out' names' order' m' (Ok end) → IsChild A L (set (set out' 0 end) 1 width) (Child end)
+  child-written {m} {end} {width} none wide v = (omega (arith, w.tells.0), omega (arith, w.tells.1), words)
     where
+      w : Wrote out order 2 0 (A +++ L) out' names' order' m' (Ok end)
+      w = subst (λ k. Wrote out order 2 k (A +++ L) out' names' order' m' (Ok end)) none v
+
       xs : List ℕ
       xs = cells_under (order_after [] (A +++ L)) (A +++ L)
 
       ends : end ≡ suc (suc (length xs))
-      ends = omega (arith, w.tells.0, ap sizes same, length-under (order_after [] (A +++ L)) (A +++ L))
+      ends = omega (arith, w.tells.0, length-under (order_after [] (A +++ L)) (A +++ L))
 
-      wide : width ≡ sizes A
-      wide = omega (arith, v.tells.0, e)
-
-      words : take end child ≡ end ∷ sizes A ∷ xs
+      words : take end (set (set out' 0 end) 1 width) ≡ end ∷ sizes A ∷ xs
       words =
-          ap (take end) (f.1 ∙ ap₂ (λ l n. set (set l 0 end) 1 n) (w.tells.3 ∙ ap (λ ts. sets out 2 (cells_under (order_after [] ts) ts)) same) wide)
+          ap (take end) (ap₂ (λ l n. set (set l 0 end) 1 n) w.tells.3 wide)
           ∙ ap (λ n. take n (set (set (sets out 2 xs) 0 end) 1 (sizes A))) ends
           ∙ framed out xs end (sizes A) (omega (arith, ends, w.tells.1))
 
@@ -126,14 +109,9 @@ module _ (ar cells bs trail : List ℕ) (n size answers s e body : ℕ) (here : 
       subst (λ u. DerivedBy u (within ar cells 0 answers) (literals_before ar cells size answers s e) child r) (sym q)
       (subst (λ ts. IsChild (range_after ar cells bs trail n 0 answers) ts child r) (sym literals-after) h)
 
--- The rows of a run.
-pub rows-ready :
-    {ar cells : List ℕ} {size answers s e number : ℕ} {table draft : List ℕ} → Together ar cells size answers s e number
-    → Rows table draft → Ready ar cells (length (bind_of table)) (length (trail_of table)) (length (marks_of table))
-rows-ready {table = table} t w =
-    let bind = part_length 0 1280 table (omega (arith, w.table_length)) in
-    let trail = part_length 1280 1280 table (omega (arith, w.table_length)) in
-    let marks = part_length 2560 1280 table (omega (arith, w.table_length)) in
+-- The table of a run has room for the variables.
+pub rows-ready : {ar cells : List ℕ} {size answers s e number : ℕ} {nv room marks : ℕ} → Together ar cells size answers s e number → nv ≡ 1280 → room ≡ 1280 → marks ≡ 1280 → Ready ar cells nv room marks
+rows-ready t bind trail marks =
     record {
       formed = t.formed;
       named = λ p l h. omega (arith, t.few p l h, bind);
@@ -141,12 +119,6 @@ rows-ready {table = table} t w =
       trailed = omega (arith, bind, trail);
       wide = omega (arith, bind, marks);
     }
-
-pub rows_named : {table draft : List ℕ} → Rows table draft → Named (names_of draft) (order_of draft) 0
-rows_named {draft = draft} w =
-    let names = part_length 1024 1280 draft (omega (arith, w.draft_length)) in
-    let order = part_length 2304 1280 draft (omega (arith, w.draft_length)) in
-    start-named (names_of draft) (order_of draft) w.unnamed (omega (arith, names)) (omega (arith, names, order))
 
 -- The place after the clause's head.
 pub head-ends :

@@ -1,5 +1,4 @@
 pub mod NamingLaws
-pub mod DraftLaws
 pub mod WroteLaws
 pub mod WalkLaws
 pub mod CellTrees

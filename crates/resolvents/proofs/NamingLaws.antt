@@ -1,5 +1,5 @@
 -- Variables named one after another: the order of first appearance over one list and then another, and what naming one more keeps.
-use Prim.Native.Nat.{ℕ, zero, suc, ◌+◌, ◌≤◌, ◌<◌}
+use Prim.Native.Nat.{ℕ, zero, suc, ◌+◌, ◌-◌, ◌≤◌, ◌<◌}
 use mathlib.Core.Path.{◌≡◌, refl, sym, ◌∙◌, ap}
 use mathlib.Core.Logic.{◌≢◌, ◌⊎◌, inl, inr, ⊎_elim}
 use mathlib.Core.Bool.{Bool, true, false, true≢false}
@@ -9,7 +9,7 @@ use native.Mathlib.Decide.{ℕ_discrete}
 use native.Mathlib.Omega.{arith}
 use native.Mathlib.Numerals.{add-one}
 use lib.ListN.{length, get_or, take, set, replicate, length-set, length-replicate, get_or-replicate}
-use lib.Seq.{length-take-le, take-suc-set, get_or-take, get_or-set_same, get_or-set_other, ext_get_or}
+use lib.Seq.{length-take-le, take-suc, take-suc-set, get_or-take, get_or-set_same, get_or-set_other}
 use Rattle.rules.specs.Goals.{member, appearing, position}
 use Rattle.rules.proofs.TermLaws.{ite-yes, ite-no}
 use Rattle.rules.proofs.NumberingLaws.{In, member-in, in-member, position-below, position-left, position-right, position_first, at_position}
@@ -94,6 +94,7 @@ named_none n order h l = record {
   counted = omega (arith, all-free n, length-replicate {A = ℕ} n 65535);
   listed = λ i k. absurd (omega arith);
   given = λ v k. get_or-replicate n v 65535 0 (omega (arith, length-replicate {A = ℕ} n 65535)) ∙ sym (name-not [] v Memᴰ.not-nil);
+  numbered = λ i k. absurd (omega arith);
 }
 
 module _ {names order : List ℕ} {m : ℕ} (w : Named names order m) where
@@ -139,36 +140,57 @@ module _ {names order : List ℕ} {m : ℕ} (w : Named names order m) where
           | yes z ↦ ap (λ x. get_or (set names v m) x 0) z ∙ get_or-set_same names v m 0 l ∙ sym (ap (name_in (take m order ++ (v ∷ []))) z ∙ name-last (take m order) v (not_named e) ∙ named-many)
           | no z ↦ get_or-set_other names v u m 0 z ∙ w.given u (rw length-set at k) ∙ sym (name-other (take m order) v u z)
         ]);
+        numbered = λ i k. elim (ℕ_discrete i m) [
+          | yes z ↦ rw z (rw (get_or-set_same order m v 0 (omega (arith, next-inside, w.room))) (get_or-set_same names v m 0 l))
+          | no z ↦ rw (get_or-set_other order m i v 0 z) (get_or-set_other names v (get_or order i 0) m 0 (λ y. omega (arith, w.numbered i (omega arith), ap (λ u. get_or names u 0) y, w.counted, w.narrow)) ∙ w.numbered i (omega arith))
+        ];
       }
 
--- Names are taken back in order: an entry in use is one that is still to come.
-pub record Forgetting (order : List ℕ) (m i : ℕ) (names : List ℕ) : Type 0 where
-  pub inside : (j : ℕ) → j < m → get_or order j 0 < length names
-  pub later : (v : ℕ) → v < length names → (get_or names v 0 ≡ 65535 → ⊥) → (j : ℕ) × (i ≤ j) × (j < m) × (get_or order j 0 ≡ v)
+-- One more entry is free.
+unfree-set : (v : ℕ) (names : List ℕ) → v < length names → get_or names v 0 ≢ 65535 → unbound (set names v 65535) ≡ suc (unbound names)
+unfolding unbound
+unfree-set v [] l q = absurd (omega arith)
+unfree-set zero (b ∷ bs) l q = omega (arith, ite-yes {X = ℕ} (ℕ_discrete 65535 65535) 1 0 refl, ite-no {X = ℕ} (ℕ_discrete b 65535) 1 0 q)
+unfree-set (suc v) (b ∷ bs) l q = omega (arith, unfree-set v bs (omega arith) q)
 
-pub forgetting-start : {names order : List ℕ} {m : ℕ} → Named names order m → Forgetting order m 0 names
-forgetting-start {names} {order} {m} w = record {
-  inside = w.listed;
-  later = λ v l q.
-      let h = is-named w l q in
-      let k : position (take m order) v < m = rw (named-many w) at (position-below v h) in
-      (position (take m order) v, omega arith, k, sym (get_or-take m order (position (take m order) v) 0 k) ∙ at_position v h);
-}
+-- The last number is taken back.
+module _ {names order : List ℕ} (i : ℕ) (w : Named names order (suc i)) where
+  abbrev last : ℕ
+  last = get_or order i 0
 
-pub forgetting-more : {order : List ℕ} {m i : ℕ} {names : List ℕ} → Forgetting order m i names → i < m → Forgetting order m (i + 1) (set names (get_or order i 0) 65535)
-forgetting-more {order} {m} {i} {names} f l = record {
-  inside = λ j k. rw length-set (f.inside j k);
-  later = λ v k q.
-      let x : ℕ = get_or order i 0 in
-      let d : v ≢ x = λ e. q (ap (λ u. get_or (set names x 65535) u 0) e ∙ get_or-set_same names x 65535 0 (f.inside i l)) in
-      let r = f.later v (rw length-set at k) (λ e. q (get_or-set_other names x v 65535 0 d ∙ e)) in
-      let b : i ≢ r.0 = λ e. d (sym r.3 ∙ ap (λ j. get_or order j 0) (sym e)) in
-      (r.0, omega (arith, r.1), r.2, r.3);
-}
+  last-inside : last < length names
+  last-inside = w.listed i (omega arith)
 
-pub forgetting-end : {order : List ℕ} {m i : ℕ} {names : List ℕ} (n : ℕ) → Forgetting order m i names → m ≤ i → length names ≡ n → names ≡ replicate n 65535
-forgetting-end {order} {m} {i} {names} n f l e = ext_get_or 0 names (replicate n 65535) (e ∙ sym (length-replicate n 65535)) λ v k.
-    elim (ℕ_discrete (get_or names v 0) 65535) [
-      | yes h ↦ h ∙ sym (get_or-replicate n v 65535 0 (omega arith))
-      | no h ↦ let r = f.later v k h in absurd (omega (arith, r.1, r.2))
-    ]
+  last-number : get_or names last 0 ≡ i
+  last-number = w.numbered i (omega arith)
+
+  fits : suc i ≤ length order
+  fits = omega (arith, w.counted, w.room)
+
+  last-other : (j : ℕ) → j < i → get_or order j 0 ≢ last
+  last-other j l e = omega (arith, w.numbered j (omega arith), last-number, ap (λ u. get_or names u 0) e)
+
+  ends : take (suc i) order ≡ take i order ++ (last ∷ [])
+  ends = take-suc order i 0 fits
+
+  last-away : ¬ (In last (take i order))
+  last-away h =
+      let p : position (take i order) last < i = omega (arith, position-below last h, length-take-le i order (omega (arith, fits))) in
+      last-other (position (take i order) last) p (sym (get_or-take i order (position (take i order) last) 0 p) ∙ at_position last h)
+
+  named-last : Named (set names last 65535) order i
+  named-last = record {
+    narrow = rw length-set w.narrow;
+    room = rw length-set w.room;
+    counted = omega (arith, w.counted, w.narrow, unfree-set last names last-inside (λ z. omega (arith, last-number, fits, w.counted, w.narrow)), length-set names last 65535);
+    listed = λ j l. rw length-set (w.listed j (omega arith));
+    given = λ u k. elim (ℕ_discrete u last) [
+      | yes z ↦ ap (λ x. get_or (set names last 65535) x 0) z ∙ get_or-set_same names last 65535 0 last-inside ∙ sym (ap (name_in (take i order)) z ∙ name-not (take i order) last last-away)
+      | no z ↦ get_or-set_other names last u 65535 0 z ∙ w.given u (rw length-set at k) ∙ ap (λ xs. name_in xs u) ends ∙ name-other (take i order) last u z
+    ];
+    numbered = λ j l. get_or-set_other names last (get_or order j 0) 65535 0 (last-other j l) ∙ w.numbered j (omega arith);
+  }
+
+pub named_less : {names order : List ℕ} {m : ℕ} → Named names order m → 0 < m → Named (set names (get_or order (m - 1) 0) 65535) order (m - 1)
+named_less {m = zero} w l = absurd (omega arith)
+named_less {m = suc i} w l = let e : suc i - 1 ≡ i = omega arith in rw e (named-last i w)

@@ -1,11 +1,11 @@
 -- The walk over a goal's literals up to the selected one: each literal passed is negative and has a variable.
-use Prim.Native.Nat.{ℕ, suc, ◌+◌, ◌≤◌, ◌<◌}
+use Prim.Native.Nat.{ℕ, suc, ◌+◌, ◌-◌, ◌≤◌, ◌<◌}
 use mathlib.Core.Path.{◌≡◌, refl, sym, ◌∙◌, ap, subst}
 use mathlib.Core.Bool.{true, false}
 use mathlib.Core.List.{List, [], ◌∷◌, ◌++◌, append_assoc}
 use native.Mathlib.Omega.{arith}
-use lib.ListN.{length, get_or}
-use lib.Seq.{slice}
+use lib.ListN.{length, get_or, take, drop}
+use Rattle.std.proofs.lemmas.List.{drop-take}
 use Rattle.rules.specs.Terms.{Terms, nil, cons, size, sizes, vars_term, vars_terms}
 use Rattle.rules.specs.Syntax.{Symbol, Literal, pos, neg, Goal, arguments}
 use Rattle.rules.specs.Cells.{positive}
@@ -128,10 +128,12 @@ module _ {ar cells : List ℕ} {S : List Symbol} {g : Goal} {at end : ℕ} (w : 
     span = record { start = d.place; end = ends ∙ ap (at +◌) (lit-size l) }
 
     -- The variables in its cells.
-    found : variables_in (slice at end cells) ≡ vars_terms (arguments l) []
+    found : variables_in (take (end - at) (drop at cells)) ≡ vars_terms (arguments l) []
     found =
-        ap (λ n. variables_in (slice at n cells)) (ends ∙ ap (at +◌) (omega arith))
-        ∙ ap variables_in (stands-slice (stands-first (cons (lit_term l) nil) (lit_terms after) d.stands))
+        let n = sizes (cons (lit_term l) nil) in
+        let e : end - at ≡ n = omega (arith, ends) in
+        ap (λ k. variables_in (take k (drop at cells))) e
+        ∙ ap variables_in (sym (drop-take at n cells) ∙ stands-slice (stands-first (cons (lit_term l) nil) (lit_terms after) d.stands))
         ∙ terms-variables ar (cons (lit_term l) nil) (d.fits.0, tt) []
         ∙ ap (vars_term (lit_term l)) variables-none
         ∙ lit-vars l
@@ -146,7 +148,7 @@ module _ {ar cells : List ℕ} {S : List Symbol} {g : Goal} {at end : ℕ} (w : 
           subst (λ x. Selects g x (Positive at end)) (sym (d.selects ∙ ap (behinds before) (select-positive p ts after) ∙ behinds-positive before p ts after)) (span d)
       go before (neg p ts ∷ after) d = absurd (omega (arith, stands-cell d.stands))
 
-  pub passed-negative : Passed ar cells S g at → 16384 ≤ get_or cells at 0 → NoneOf (variables_in (slice at end cells)) true → Selects g (select g.literals) (Negative at end)
+  pub passed-negative : Passed ar cells S g at → 16384 ≤ get_or cells at 0 → NoneOf (variables_in (take (end - at) (drop at cells))) true → Selects g (select g.literals) (Negative at end)
   passed-negative s h n = go s.before s.after s.is
     where
       go : (before after : List Literal) → Split ar cells S g at before after → Selects g (select g.literals) (Negative at end)
@@ -155,7 +157,7 @@ module _ {ar cells : List ℕ} {S : List Symbol} {g : Goal} {at end : ℕ} (w : 
       go before (neg p ts ∷ after) d =
           subst (λ x. Selects g x (Negative at end)) (sym (d.selects ∙ ap (behinds before) (select-ground p ts after (sym (found d) ∙ n.if-so refl)) ∙ behinds-negative before p ts after)) (span d)
 
-  pub passed-more : Passed ar cells S g at → 16384 ≤ get_or cells at 0 → NoneOf (variables_in (slice at end cells)) false → Passed ar cells S g end
+  pub passed-more : Passed ar cells S g at → 16384 ≤ get_or cells at 0 → NoneOf (variables_in (take (end - at) (drop at cells))) false → Passed ar cells S g end
   passed-more s h n = go s.before s.after s.is
     where
       go : (before after : List Literal) → Split ar cells S g at before after → Passed ar cells S g end

@@ -16,8 +16,7 @@ use Rattle.resolvents.specs.Deriving.{IsResolvent, IsAttempt}
 use Rattle.resolvents.specs.Child.{IsChild, DerivedBy, AttemptedBy}
 use Rattle.resolvents.specs.declared.resolve.Resolved.{Resolved}
 use Rattle.resolvents.specs.declared.resolve.Resolved.TheVariants.{Nothing, Child, Oversized}
-use Rattle.resolvents.specs.declared.resolve.Attempt.{Attempt}
-use Rattle.resolvents.specs.declared.resolve.Attempt.TheVariants.{Gives, Broken}
+use Rattle.std.specs.Prelude as std
 use Rattle.resolvents.proofs.WroteLaws.{renames-sizes, renames-join, length-under}
 use Rattle.resolvents.proofs.CellTrees.{lit_terms, goal_terms, goal-cells, goal-vars, goal-applys, lits-renames}
 
@@ -66,7 +65,7 @@ derived-resolvent ans ls child r (solved k es) h =
     child-resolvent (map_goal (applys es) g) (applys es ans) (applys es (lit_terms ls)) child r (goal-applys es g) refl h
 
 pub attempted-resolvent :
-    (ans : Terms) (ls : List Literal) (left : ℕ) (child : List ℕ) (r : Attempt) (u : Unification) → AttemptedBy u left ans (lit_terms ls) child r
+    (ans : Terms) (ls : List Literal) (left : ℕ) (child : List ℕ) (r : std.Option (Resolved × ℕ)) (u : Unification) → AttemptedBy u left ans (lit_terms ls) child r
     → IsAttempt (resolved (record { answers = ans; literals = ls }) u) (equations u) left child r
-attempted-resolvent ans ls left child (Gives r rest) u h = (h.0, derived-resolvent ans ls child r u h.1)
-attempted-resolvent ans ls left child Broken u h = h
+attempted-resolvent ans ls left child (std.Some x) u h = (h.0, derived-resolvent ans ls child x.0 u h.1)
+attempted-resolvent ans ls left child std.None u h = h

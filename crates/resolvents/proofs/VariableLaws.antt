@@ -1,13 +1,16 @@
 -- The walks over cells that look for variables or copy cells, one cell after another.
 use Prim.Native.Nat.{ℕ, suc, ◌+◌, ◌-◌, ◌≤◌, ◌<◌, max}
 use mathlib.Core.Path.{◌≡◌, refl, sym, ◌∙◌, ap}
-use mathlib.Core.Bool.{true, false, true≢false}
+use mathlib.Core.Bool.{Bool, true, false, ◌&&◌, true≢false}
+use borrow.Author.Tests.{ltb-true, ltb-false}
+use lib.Dec.{ltb}
+use Rattle.std.specs.List.{list_all}
 use mathlib.Core.List.{List, [], ◌∷◌, map}
 use native.Mathlib.Decide.{dec_lt}
 use native.Mathlib.Numerals.{add-one}
 use native.Mathlib.Omega.{arith}
-use lib.ListN.{length, get_or, take, drop, set, length-take, length-set, drop_of_length-le}
-use lib.Seq.{slice, sets, drop-cons, slice-cons}
+use lib.ListN.{length, get_or, drop, set, length-set, drop_of_length-le}
+use lib.Seq.{sets, drop-cons}
 use Rattle.rules.specs.Terms.{vars_terms}
 use Rattle.rules.specs.Syntax.{Symbol, Goal, top_goal}
 use Rattle.rules.proofs.NumberingLaws.{above, top_goal-above}
@@ -16,23 +19,17 @@ use Rattle.resolvents.specs.Selecting.{GoalCells}
 use Rattle.resolvents.proofs.CellTrees.{goal_terms, goal-cells, goal-vars}
 use Rattle.resolvents.proofs.RowLaws.{variables-none, variable-none, variable-one, terms-variables, fresh-symbol, fresh-variable, goal-fits}
 
--- UP TO A VARIABLE: no variable stands before i.
-abbrev pub NoneBefore : List ℕ → ℕ → ℕ → ℕ → Type 0
-NoneBefore cells a e i = variables_in (slice a e cells) ≡ variables_in (slice i e cells)
-
-module _ (cells : List ℕ) (a e i : ℕ) (h : NoneBefore cells a e i) where
-  pub none_more : e ≤ length cells → i < e → get_or cells i 0 < 32768 → NoneBefore cells a e (i + 1)
-  none_more k l f = h ∙ rw (add-one, slice-cons i e cells 0 l k) (variable-none (get_or cells i 0) (slice (suc i) e cells) f)
-
-  pub one_found : e ≤ length cells → i < e → 32768 ≤ get_or cells i 0 → NoneOf (variables_in (slice a e cells)) false
-  one_found k l f =
-      let z = h ∙ ap variables_in (slice-cons i e cells 0 l k) ∙ variable-one (get_or cells i 0) (slice (suc i) e cells) f in
-      record { if-so = λ q. absurd (true≢false (sym q)); if-not = λ _ n. absurd (let m : ◌≡◌ {A = ℕ} 0 1 = cc in omega arith) }
-
-  pub none_found : e ≤ i → NoneOf (variables_in (slice a e cells)) true
-  none_found l =
-      let d : slice i e cells ≡ [] = drop_of_length-le (take e cells) {i = i} (omega (arith, length-take e cells)) in
-      record { if-so = λ _. h ∙ ap variables_in d ∙ variables-none; if-not = λ q. absurd (true≢false q) }
+-- NO VARIABLE
+pub none-of : (cs : List ℕ) → NoneOf (variables_in cs) (list_all (λ c. ltb c 32768) cs)
+none-of [] = record { if-so = λ _. variables-none; if-not = λ q. absurd (true≢false q) }
+none-of (c ∷ cs) = go (ltb c 32768) refl (none-of cs)
+  where
+    go : (b : Bool) → ltb c 32768 ≡ b → NoneOf (variables_in cs) (list_all (λ c. ltb c 32768) cs) → NoneOf (variables_in (c ∷ cs)) (b && list_all (λ c. ltb c 32768) cs)
+    go true e h = rw (variable-none c cs (ltb-true c 32768 e)) h
+    go false e h = record {
+      if-so = λ q. absurd (true≢false (sym q));
+      if-not = λ _ n. absurd (let z = sym (variable-one c cs (ltb-false c 32768 e)) ∙ n in let m : ◌≡◌ {A = ℕ} 0 1 = cc in omega arith);
+    }
 
 -- THE LEAST NUMBER ABOVE ALL VARIABLES: `top` of the variables before i.
 pub record Topped (cells : List ℕ) (top i : ℕ) : Type 0 where

@@ -16,9 +16,9 @@ use Rattle.matching.specs.Cells.{args_of, made, reads, from, term_at}
 use Rattle.matching.specs.Bindings.{elims, Good, Final}
 use Rattle.matching.proofs.CellLaws.{args-functor, args-var, made-functor, made-var, count-reads, term_at-var}
 use Rattle.matching.proofs.SeenLaws.{open-var, open-functor}
-use Rattle.resolvents.specs.Naming.{within, shown, Named, Bounds, Wrote}
-use Rattle.resolvents.specs.declared.put.Put.{Put}
-use Rattle.resolvents.specs.declared.put.Put.TheVariants.{To, Full}
+use Rattle.resolvents.specs.Naming.{within, shown, Named, Wrote}
+use Rattle.std.specs.Prelude.{Result, Ok, Err}
+use Rattle.resolvents.specs.declared.put.Full.{Full}
 use Rattle.resolvents.proofs.WroteLaws.{wrote_none, wrote-over, wrote-functor, wrote-join, wrote-full, wrote-room}
 
 take_none : (k : ℕ) → take_t k nil ≡ nil
@@ -66,26 +66,25 @@ module _ (es : Substitution) (ar cells : List ℕ) (i end : ℕ) where
         rw (range-cell ar cells i end l h, made-var (get_or cells i 0) _ f, args-var ar (get_or cells i 0) f, applys-cons, z, term_at-var ar cells i (omega arith) f)
 
 -- Up to the cell i, with `todo` terms still to come: whatever is written from there on makes the whole.
-pub record Putting (ar cells bs trail : List ℕ) (n end total : ℕ) (Whole : List ℕ → List ℕ → List ℕ → Put → Type 0) (names order out : List ℕ) (i todo at m : ℕ) : Type 0 where
+pub record Putting (ar cells bs trail : List ℕ) (n end total : ℕ) (Whole : List ℕ → List ℕ → List ℕ → ℕ → Result ℕ Full → Type 0) (names order out : List ℕ) (i todo at m : ℕ) : Type 0 where
   pub few : todo ≤ 65535 + 255 * i
   pub room : at ≤ length out
   pub held : Named names order m
-  pub wide : length bs ≤ length names
   pub fewer : sizes (shown ar cells bs trail n i end todo) ≤ total
-  pub rest : (out' names' order' : List ℕ) (r : Put) → Wrote out order at m (shown ar cells bs trail n i end todo) out' names' order' r → Whole out' names' order' r
+  pub rest : (out' names' order' : List ℕ) (m' : ℕ) (r : Result ℕ Full) → Wrote out order at m (shown ar cells bs trail n i end todo) out' names' order' m' r → Whole out' names' order' m' r
 
 pub putting-start : {ar cells bs trail : List ℕ} {n p end number : ℕ} {names order out : List ℕ} {m to : ℕ}
-    → Named names order m → Bounds cells bs names end → (number < 65536) × (to ≤ length out)
+    → Named names order m → (number < 65536) × (to ≤ length out)
     → Putting ar cells bs trail n end (sizes (shown ar cells bs trail n p end number)) (Wrote out order to m (shown ar cells bs trail n p end number)) names order out p number to m
-putting-start w b l = record { few = omega (arith, l.0); room = l.1; held = w; wide = b.wide; fewer = omega arith; rest = λ _ _ _ _ h. h }
+putting-start w l = record { few = omega (arith, l.0); room = l.1; held = w; fewer = omega arith; rest = λ _ _ _ _ _ h. h }
 
-module _ {ar cells bs trail : List ℕ} {n end total : ℕ} {Whole : List ℕ → List ℕ → List ℕ → Put → Type 0} {names order out : List ℕ} {i todo at m : ℕ} (s : Putting ar cells bs trail n end total Whole names order out i todo at m) where
+module _ {ar cells bs trail : List ℕ} {n end total : ℕ} {Whole : List ℕ → List ℕ → List ℕ → ℕ → Result ℕ Full → Type 0} {names order out : List ℕ} {i todo at m : ℕ} (s : Putting ar cells bs trail n end total Whole names order out i todo at m) where
   -- No term is left, or no cell.
-  pub putting-none : todo ≡ 0 → Whole out names order (To at m)
-  putting-none e = s.rest out names order (To at m) (wrote_none s.held s.room (rw e (applys-nil (elims ar cells bs trail n))))
+  pub putting-none : todo ≡ 0 → Whole out names order m (Ok at)
+  putting-none e = s.rest out names order m (Ok at) (wrote_none s.held s.room (rw e (applys-nil (elims ar cells bs trail n))))
 
-  pub putting-end : end ≤ i → Whole out names order (To at m)
-  putting-end l = s.rest out names order (To at m) (wrote_none s.held s.room (range_none (elims ar cells bs trail n) ar cells i end todo l))
+  pub putting-end : end ≤ i → Whole out names order m (Ok at)
+  putting-end l = s.rest out names order m (Ok at) (wrote_none s.held s.room (range_none (elims ar cells bs trail n) ar cells i end todo l))
 
   module _ (l : i < end) (h : end ≤ length cells) (q : todo ≡ 0 → ⊥) where
     -- The cell at i is a functor.
@@ -97,14 +96,13 @@ module _ {ar cells bs trail : List ℕ} {n end total : ℕ} {Whole : List ℕ �
           few = omega (arith, s.few, args-small ar (get_or cells i 0));
           room = rw length-set (omega arith);
           held = s.held;
-          wide = s.wide;
           fewer = omega (arith, s.fewer, ap sizes r.2, ap sizes r.3, sizes-join r.0 r.1);
-          rest = λ out' names' order' x w. s.rest out' names' order' x (wrote-functor r.2 r.3 w);
+          rest = λ out' names' order' m' x w. s.rest out' names' order' m' x (wrote-functor r.2 r.3 w);
         }
 
     -- There is no room for the cell at i.
-    pub putting-over : length out ≤ at → Whole out names order (Full m)
-    putting-over o = s.rest out names order (Full m) (elim (dec_lt (get_or cells i 0) 32768) [
+    pub putting-over : (why : Full) → length out ≤ at → Whole out names order m (Err why)
+    putting-over why o = s.rest out names order m (Err why) (elim (dec_lt (get_or cells i 0) 32768) [
       | yes f ↦ wrote-over s.held (range-functor (elims ar cells bs trail n) ar cells i end l h todo (args_of ar (get_or cells i 0)) q refl f).2 o
       | no f ↦ wrote-over s.held (range-variable (elims ar cells bs trail n) ar cells i end l h todo q (omega arith)) o
     ])
@@ -113,21 +111,20 @@ module _ {ar cells bs trail : List ℕ} {n end total : ℕ} {Whole : List ℕ �
     pub putting-first : 32768 ≤ get_or cells i 0 → shown ar cells bs trail n i end todo ≡ cons (apply (elims ar cells bs trail n) (term_at ar cells i)) (shown ar cells bs trail n (i + 1) end (todo - 1))
     putting-first f = range-variable (elims ar cells bs trail n) ar cells i end l h todo q f
 
-    pub putting-term : {out' names' order' : List ℕ} {d j : ℕ} → 32768 ≤ get_or cells i 0 → length names' ≡ length names
-        → Wrote out order at m (cons (apply (elims ar cells bs trail n) (term_at ar cells i)) nil) out' names' order' (To d j)
+    pub putting-term : {out' names' order' : List ℕ} {d j : ℕ} → 32768 ≤ get_or cells i 0
+        → Wrote out order at m (cons (apply (elims ar cells bs trail n) (term_at ar cells i)) nil) out' names' order' j (Ok d)
         → Putting ar cells bs trail n end total Whole names' order' out' (i + 1) (todo - 1) d j
-    putting-term {d = d} f z w = record {
+    putting-term {d = d} f w = record {
       few = omega (arith, s.few);
       room = wrote-room w;
       held = w.kept;
-      wide = omega (arith, s.wide);
       fewer = omega (arith, s.fewer, ap sizes (putting-first f));
-      rest = λ out'' names'' order'' x v. s.rest out'' names'' order'' x (rw (putting-first f) (wrote-join w v));
+      rest = λ out'' names'' order'' m'' x v. s.rest out'' names'' order'' m'' x (rw (putting-first f) (wrote-join w v));
     }
 
-    pub putting-full : {out' names' order' : List ℕ} {j : ℕ} → 32768 ≤ get_or cells i 0
-        → Wrote out order at m (cons (apply (elims ar cells bs trail n) (term_at ar cells i)) nil) out' names' order' (Full j) → Whole out' names' order' (Full j)
-    putting-full f w = s.rest _ _ _ _ (rw (putting-first f) (wrote-full (shown ar cells bs trail n (i + 1) end (todo - 1)) w))
+    pub putting-full : {out' names' order' : List ℕ} {j : ℕ} {why : Full} → 32768 ≤ get_or cells i 0
+        → Wrote out order at m (cons (apply (elims ar cells bs trail n) (term_at ar cells i)) nil) out' names' order' j (Err why) → Whole out' names' order' j (Err why)
+    putting-full f w = s.rest _ _ _ _ _ (rw (putting-first f) (wrote-full (shown ar cells bs trail n (i + 1) end (todo - 1)) w))
 
 -- All the terms of a range.
 take_whole : (k : ℕ) (ts : Terms) → count ts ≤ k → take_t k ts ≡ ts
@@ -144,8 +141,8 @@ range-seen es ar cells p k = rw take-length
 
 -- The term t is the one at q: a free variable, or a functor with its arguments.
 module _ {ar cells bs trail : List ℕ} {n q : ℕ} {t : Term} (g : Good ar cells bs trail n) (f : Final cells bs q) (v : apply (elims ar cells bs trail n) (term_at ar cells q) ≡ t) where
-  pub bound-variable : {out order : List ℕ} {to m : ℕ} {out' names' order' : List ℕ} {r : Put} → 32768 ≤ get_or cells q 0
-      → Wrote out order to m (cons (var (get_or cells q 0 - 32768)) nil) out' names' order' r → Wrote out order to m (cons t nil) out' names' order' r
+  pub bound-variable : {out order : List ℕ} {to m : ℕ} {out' names' order' : List ℕ} {m' : ℕ} {r : Result ℕ Full} → 32768 ≤ get_or cells q 0
+      → Wrote out order to m (cons (var (get_or cells q 0 - 32768)) nil) out' names' order' m' r → Wrote out order to m (cons t nil) out' names' order' m' r
   bound-variable l w = rw (← v, open-var g f l) w
 
   module _ (l : get_or cells q 0 < 32768) (a : ℕ) (e : a ≡ args_of ar (get_or cells q 0)) where
@@ -155,7 +152,7 @@ module _ {ar cells bs trail : List ℕ} {n q : ℕ} {t : Term} (g : Good ar cell
     pub bound-less : {ts us : Terms} → ts ≡ cons t us → sizes (shown ar cells bs trail n (q + 1) (length cells) a) < sizes ts
     bound-less d = omega (arith, ap sizes d, ap size bound-term)
 
-    pub bound-functor : {out order : List ℕ} {to m : ℕ} {out' names' order' : List ℕ} {r : Put}
-        → Wrote (set out to (get_or cells q 0)) order (to + 1) m (shown ar cells bs trail n (q + 1) (length cells) a) out' names' order' r
-        → Wrote out order to m (cons t nil) out' names' order' r
+    pub bound-functor : {out order : List ℕ} {to m : ℕ} {out' names' order' : List ℕ} {m' : ℕ} {r : Result ℕ Full}
+        → Wrote (set out to (get_or cells q 0)) order (to + 1) m (shown ar cells bs trail n (q + 1) (length cells) a) out' names' order' m' r
+        → Wrote out order to m (cons t nil) out' names' order' m' r
     bound-functor w = wrote-functor (ap (λ u. cons u nil) bound-term) (sym (join-nil (shown ar cells bs trail n (q + 1) (length cells) a))) w

@@ -1,6 +1,6 @@
 -- Writing terms under new numbers: a functor and then its arguments, one list and then another, a variable.
 use Prim.Native.Nat.{ℕ, suc, ◌+◌, ◌≤◌, ◌<◌}
-use mathlib.Core.Path.{◌≡◌, refl, sym, ◌∙◌, ap, ap₂, subst}
+use mathlib.Core.Path.{◌≡◌, refl, sym, ◌∙◌, ap, ap₂}
 use mathlib.Core.List.{List, [], ◌∷◌, ◌++◌}
 use native.Mathlib.Omega.{arith}
 use native.Mathlib.Numerals.{add-one}
@@ -13,8 +13,8 @@ use Rattle.rules.proofs.TermLaws.{sizes-join, occ-same, size-pos}
 use Rattle.rules.proofs.CellLaws.{terms-length, write-append, write-join, vars-join}
 use Rattle.rules.proofs.NumberingLaws.{vars-append, occs-in, position-left, appearing-extends, appearing-finds}
 use Rattle.resolvents.specs.Naming.{Named, order_after, cells_under, Wrote}
-use Rattle.resolvents.specs.declared.put.Put.{Put}
-use Rattle.resolvents.specs.declared.put.Put.TheVariants.{To, Full}
+use Rattle.std.specs.Prelude.{Result, Ok, Err}
+use Rattle.resolvents.specs.declared.put.Full.{Full}
 use Rattle.resolvents.proofs.NamingLaws.{appearing-append, appears-old, appears-new, position-last, named-many, is-named, not_named, number_of, order-more, named_more}
 
 -- RENAMED TERMS
@@ -72,19 +72,19 @@ sets-append [] vs l i = ap (λ j. sets l j vs) (omega arith)
 sets-append (u ∷ us) vs l i = sets-append us vs (set l i u) (suc i) ∙ ap (λ j. sets (sets (set l i u) (suc i) us) j vs) (omega arith)
 
 -- WHAT IS WRITTEN
-pub wrote_none : {out names order : List ℕ} {to m : ℕ} {ts : Terms} → Named names order m → to ≤ length out → ts ≡ nil → Wrote out order to m ts out names order (To to m)
+pub wrote_none : {out names order : List ℕ} {to m : ℕ} {ts : Terms} → Named names order m → to ≤ length out → ts ≡ nil → Wrote out order to m ts out names order m (Ok to)
 unfolding appearing
 wrote_none {out} {names} {order} {to} {m} w l e = rw e (record { tells = (omega arith, l, refl, refl); kept = w })
 
 -- There is no room for a first cell.
-pub wrote-over : {out order : List ℕ} {to m : ℕ} {ts us : Terms} {t : Term} {out' names order' : List ℕ} → Named names order' m → ts ≡ cons t us → length out ≤ to → Wrote out order to m ts out' names order' (Full m)
+pub wrote-over : {out order : List ℕ} {to m : ℕ} {ts us : Terms} {t : Term} {out' names' order' : List ℕ} {why : Full} → Named names' order' m → ts ≡ cons t us → length out ≤ to → Wrote out order to m ts out' names' order' m (Err why)
 wrote-over {t = t} w e l = rw e (record { tells = omega (arith, size-pos t); kept = w })
 
 -- A functor, and then its arguments and the other terms.
 pub wrote-functor :
-    {out order : List ℕ} {to m f : ℕ} {us vs ts ws : Terms} {out' names' order' : List ℕ} {r : Put} → ts ≡ cons (app f us) vs → ws ≡ us +++ vs
-    → Wrote (set out to f) order (to + 1) m ws out' names' order' r → Wrote out order to m ts out' names' order' r
-wrote-functor {out} {order} {to} {m} {f} {us} {vs} {ts} {ws} {r = To e k} p q w =
+    {out order : List ℕ} {to m f : ℕ} {us vs ts ws : Terms} {out' names' order' : List ℕ} {m' : ℕ} {r : Result ℕ Full} → ts ≡ cons (app f us) vs → ws ≡ us +++ vs
+    → Wrote (set out to f) order (to + 1) m ws out' names' order' m' r → Wrote out order to m ts out' names' order' m' r
+wrote-functor {out} {order} {to} {m} {f} {us} {vs} {ts} {ws} {r = Ok e} p q w =
     let h = w.tells in
     let z : order_after (take m order) ws ≡ order_after (take m order) (cons (app f us) vs) = ap (appearing (take m order)) (ap (λ us. vars_terms us []) q ∙ vars-join us vs []) in
     rw p (record {
@@ -96,13 +96,13 @@ wrote-functor {out} {order} {to} {m} {f} {us} {vs} {ts} {ws} {r = To e k} p q w 
       );
       kept = w.kept;
     })
-wrote-functor {out} {order} {to} {m} {f} {us} {vs} {r = Full k} p q w = rw p (record { tells = omega (arith, w.tells, length-set out to f, ap sizes q, sizes-join us vs); kept = w.kept })
+wrote-functor {out} {order} {to} {m} {f} {us} {vs} {r = Err why} p q w = rw p (record { tells = omega (arith, w.tells, length-set out to f, ap sizes q, sizes-join us vs); kept = w.kept })
 
 -- One list and then another; where the first does not fit, the whole does not.
 pub wrote-join :
-    {out order : List ℕ} {to m e k : ℕ} {ts us : Terms} {out₁ names₁ order₁ out₂ names₂ order₂ : List ℕ} {r : Put}
-    → Wrote out order to m ts out₁ names₁ order₁ (To e k) → Wrote out₁ order₁ e k us out₂ names₂ order₂ r → Wrote out order to m (ts +++ us) out₂ names₂ order₂ r
-wrote-join {out} {order} {to} {m} {e} {k} {ts} {us} {out₁} {order₁ = order₁} {r = To d j} v w =
+    {out order : List ℕ} {to m e k : ℕ} {ts us : Terms} {out₁ names₁ order₁ out₂ names₂ order₂ : List ℕ} {m' : ℕ} {r : Result ℕ Full}
+    → Wrote out order to m ts out₁ names₁ order₁ k (Ok e) → Wrote out₁ order₁ e k us out₂ names₂ order₂ m' r → Wrote out order to m (ts +++ us) out₂ names₂ order₂ m' r
+wrote-join {out} {order} {to} {m} {e} {k} {ts} {us} {out₁} {order₁ = order₁} {r = Ok d} v w =
     let h = v.tells in
     let g = w.tells in
     let xs : List ℕ = take m order in
@@ -122,24 +122,24 @@ wrote-join {out} {order} {to} {m} {e} {k} {ts} {us} {out₁} {order₁ = order�
       );
       kept = w.kept;
     }
-wrote-join {out} {order} {to} {m} {ts = ts} {us} {r = Full j} v w =
+wrote-join {out} {order} {to} {m} {ts = ts} {us} {r = Err why} v w =
     let h = v.tells in
     record { tells = omega (arith, w.tells, h.0, ap length h.3, length-sets out to (cells_under (order_after (take m order) ts) ts), sizes-join ts us); kept = w.kept }
 
 pub wrote-full :
-    {out order : List ℕ} {to m k : ℕ} {ts : Terms} (us : Terms) {out' names' order' : List ℕ}
-    → Wrote out order to m ts out' names' order' (Full k) → Wrote out order to m (ts +++ us) out' names' order' (Full k)
+    {out order : List ℕ} {to m k : ℕ} {ts : Terms} (us : Terms) {out' names' order' : List ℕ} {why : Full}
+    → Wrote out order to m ts out' names' order' k (Err why) → Wrote out order to m (ts +++ us) out' names' order' k (Err why)
 wrote-full {ts = ts} us w = record { tells = omega (arith, w.tells, sizes-join ts us); kept = w.kept }
 
-pub wrote-room : {out order : List ℕ} {to m e k : ℕ} {ts : Terms} {out' names' order' : List ℕ} → Wrote out order to m ts out' names' order' (To e k) → e ≤ length out'
+pub wrote-room : {out order : List ℕ} {to m e k : ℕ} {ts : Terms} {out' names' order' : List ℕ} → Wrote out order to m ts out' names' order' k (Ok e) → e ≤ length out'
 wrote-room {out} {order} {to} {m} {ts = ts} w = let h = w.tells in omega (arith, h.1, ap length h.3, length-sets out to (cells_under (order_after (take m order) ts) ts))
 
-pub wrote-answer : {out order : List ℕ} {to m : ℕ} {ts : Terms} {out' names' order' : List ℕ} {r r' : Put} → Wrote out order to m ts out' names' order' r → r ≡ r' → Wrote out order to m ts out' names' order' r'
-wrote-answer {out} {order} {to} {m} {ts} {out'} {names'} {order'} w e = subst (Wrote out order to m ts out' names' order') e w
+pub wrote-length : {out order : List ℕ} {to m e k : ℕ} {ts : Terms} {out' names' order' : List ℕ} → Wrote out order to m ts out' names' order' k (Ok e) → length out' ≡ length out
+wrote-length {out} {order} {to} {m} {ts = ts} w = ap length w.tells.3 ∙ length-sets out to (cells_under (order_after (take m order) ts) ts)
 
 -- A variable: with the next number, or with the one that it has.
 module _ {names order : List ℕ} {m : ℕ} (w : Named names order m) {v : ℕ} (l : v < length names) {out : List ℕ} {to : ℕ} (room : to < length out) where
-  pub wrote-new : get_or names v 0 ≡ 65535 → Wrote out order to m (cons (var v) nil) (set out to (32768 + m)) (set names v m) (set order m v) (To (to + 1) (m + 1))
+  pub wrote-new : get_or names v 0 ≡ 65535 → Wrote out order to m (cons (var v) nil) (set out to (32768 + m)) (set names v m) (set order m v) (m + 1) (Ok (to + 1))
   wrote-new e =
       let n = not_named w l e in
       let a = appears-new (take m order) v n in
@@ -148,7 +148,7 @@ module _ {names order : List ℕ} {m : ℕ} (w : Named names order m) {v : ℕ} 
         kept = named_more w l e;
       }
 
-  pub wrote-old : (get_or names v 0 ≡ 65535 → ⊥) → Wrote out order to m (cons (var v) nil) (set out to (32768 + get_or names v 0)) names order (To (to + 1) m)
+  pub wrote-old : (get_or names v 0 ≡ 65535 → ⊥) → Wrote out order to m (cons (var v) nil) (set out to (32768 + get_or names v 0)) names order m (Ok (to + 1))
   wrote-old q =
       let h = is-named w l q in
       let a = appears-old (take m order) v h in

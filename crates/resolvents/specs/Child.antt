@@ -1,16 +1,15 @@
 -- The words of a derived goal, written from the cells of a goal and of a clause with fresh variables after them.
-use Rattle.std.specs.Prelude.{ℕ, ◌+◌, ◌-◌, ◌≤◌, ◌<◌, ◌≡◌, List, [], ◌∷◌, length, get_or, take, set}
+use Rattle.std.specs.Prelude.{ℕ, ◌+◌, ◌-◌, ◌≤◌, ◌<◌, ◌≡◌, List, [], ◌∷◌, length, get_or, take, Option, Some, None, Result, Ok, Err}
 use Rattle.rules.specs.Terms.{Terms, ◌+++◌, count, size, sizes}
 use Rattle.rules.specs.Unification.{Unification, fails, spent, solved, equations, applys}
 use Rattle.matching.specs.Cells.{from, term_at, Formed}
 use Rattle.matching.specs.Bindings.{elims}
-use Rattle.resolvents.specs.Naming.{within, order_after, cells_under, named_by, Named, Wrote}
-use Rattle.resolvents.specs.declared.put.Put.{Put}
-use Rattle.resolvents.specs.declared.put.Put.TheVariants.{To, Full}
+use Rattle.resolvents.specs.Naming.{within, order_after, cells_under, Wrote}
+use Rattle.matching.specs.declared.bindings.Bound.{Bound}
+use Rattle.resolvents.specs.declared.resolve.Call.{Call}
+use Rattle.resolvents.specs.declared.put.Full.{Full}
 use Rattle.resolvents.specs.declared.resolve.Resolved.{Resolved}
 use Rattle.resolvents.specs.declared.resolve.Resolved.TheVariants.{Nothing, Child, Oversized}
-use Rattle.resolvents.specs.declared.resolve.Attempt.{Attempt}
-use Rattle.resolvents.specs.declared.resolve.Attempt.TheVariants.{Gives, Broken}
 
 -- The terms that the cells from p up to `end` hold, after the eliminations.
 abbrev pub range_after : List ℕ → List ℕ → List ℕ → List ℕ → ℕ → ℕ → ℕ → Terms
@@ -21,6 +20,10 @@ abbrev pub literals_after : List ℕ → List ℕ → List ℕ → List ℕ → 
 literals_after ar cells bs trail n size answers s e body =
     range_after ar cells bs trail n answers s +++ (range_after ar cells bs trail n e size +++ range_after ar cells bs trail n body (length cells))
 
+-- The same by the bindings b, for a call.
+abbrev pub literals_by : Bound → Call → ℕ → Terms
+literals_by b call body = literals_after b.terms.symbols.now b.terms.cells.now b.table.now.bind b.table.now.trail b.table.now.bound call.len call.answers call.s call.e body
+
 -- Such ranges in the cells.
 pub record Ranges (cells : List ℕ) (size answers s e body : ℕ) : Type 0 where
   pub answered : answers ≤ s
@@ -28,38 +31,10 @@ pub record Ranges (cells : List ℕ) (size answers s e body : ℕ) : Type 0 wher
   pub rest : e ≤ size
   pub clause : body ≤ length cells
 
--- Where writing goes on, and under which names.
-abbrev pub Reached : List ℕ → Put → Type 0
-Reached out (To at m) = at ≤ length out
-Reached out (Full m) = Unit {0}
-
-pub record Onward (out names order : List ℕ) (p : Put) : Type 0 where
-  pub named : Named names order (named_by p)
-  pub reached : Reached out p
-
--- The terms us are written after what was written, whatever that was.
-pub record Adds (out names order : List ℕ) (p : Put) (us : Terms) (out' names' order' : List ℕ) (r : Put) : Type 0 where
-  pub added : (out₀ order₀ : List ℕ) (to m : ℕ) (ts : Terms) → Wrote out₀ order₀ to m ts out names order p → Wrote out₀ order₀ to m (ts +++ us) out' names' order' r
-  pub onward : Onward out' names' order' r
-
--- How many cells were written from place 2 on.
-abbrev pub width_of : Put → ℕ
-width_of (To at m) = at - 2
-width_of (Full m) = 0
-
--- Writing began at place 2.
-abbrev pub Past : Put → Type 0
-Past (To at m) = 2 ≤ at
-Past (Full m) = Unit {0}
-
--- A goal's two first words are put before its cells, if these fitted.
-abbrev pub Finished : Put → ℕ → List ℕ → List ℕ → Resolved → Type 0
-Finished (To end m) width out out' r = (r ≡ Child end) × (out' ≡ set (set out 0 end) 1 width)
-Finished (Full m) width out out' r = r ≡ Oversized
-
--- No variable has a name.
-abbrev pub Unnamed : List ℕ → Type 0
-Unnamed names = (v : ℕ) → v < length names → get_or names v 0 ≡ 65535
+-- The answer terms and the literals are written from place 2 on, with how many cells are the answer terms'; or they do not fit.
+abbrev pub GoalWritten : List ℕ → List ℕ → ℕ → Terms → Terms → List ℕ → List ℕ → List ℕ → ℕ → Result (ℕ × ℕ) Full → Type 0
+GoalWritten out order m ans ls out' names' order' m' (Ok x) = (x.1 ≡ sizes ans) × Wrote out order 2 m (ans +++ ls) out' names' order' m' (Ok x.0)
+GoalWritten out order m ans ls out' names' order' m' (Err why) = Wrote out order 2 m (ans +++ ls) out' names' order' m' (Err why)
 
 -- The words of the goal with the answer terms `ans` and the literals `ls`, as terms, renumbered by first appearance; or they are over 1,024.
 abbrev pub IsChild : Terms → Terms → List ℕ → Resolved → Type 0
@@ -75,9 +50,9 @@ DerivedBy spent ans ls child r = r ≡ Nothing
 DerivedBy (solved k es) ans ls child r = IsChild (applys es ans) (applys es ls) child r
 
 -- The same with what is left of `left` after the equations; or they are more.
-abbrev pub AttemptedBy : Unification → ℕ → Terms → Terms → List ℕ → Attempt → Type 0
-AttemptedBy u left ans ls child (Gives r rest) = (equations u + rest ≡ left) × DerivedBy u ans ls child r
-AttemptedBy u left ans ls child Broken = left < equations u
+abbrev pub AttemptedBy : Unification → ℕ → Terms → Terms → List ℕ → Option (Resolved × ℕ) → Type 0
+AttemptedBy u left ans ls child (Some x) = (equations u + x.1 ≡ left) × DerivedBy u ans ls child x.0
+AttemptedBy u left ans ls child None = left < equations u
 
 -- The place after the term at p.
 abbrev pub place_after : List ℕ → List ℕ → ℕ → ℕ

@@ -1,6 +1,7 @@
 -- A goal with a selected positive literal, a clause about its predicate, and the derived goal.
-use Rattle.std.specs.Prelude.{ℕ, ◌+◌, ◌≤◌, ◌<◌, ◌≡◌, List, ◌∷◌, ◌++◌, length, take, get_or}
-use Rattle.std.proofs.Math.Option.{Option, none, some}
+use Rattle.std.specs.Prelude.{ℕ, ◌+◌, ◌≤◌, ◌<◌, ◌≡◌, List, ◌∷◌, ◌++◌, length, take, Option, Some, None}
+use Rattle.std.proofs.Math.Option as math
+use Rattle.std.proofs.Math.Option.{none, some}
 use Rattle.rules.specs.Terms.{Terms}
 use Rattle.rules.specs.Syntax.{Symbol, Literal, pos, Clause, Goal, top_goal}
 use Rattle.rules.specs.Decks.{write_clause}
@@ -9,20 +10,17 @@ use Rattle.rules.specs.Resolution.{fresh}
 use Rattle.rules.specs.Goals.{goal_words, marked, pending, write_goal}
 use Rattle.rules.specs.WellFormed.{WfClause}
 use Rattle.matching.specs.Bindings.{Blank}
-use Rattle.matching.specs.Tables.{bind_of, marks_of}
-use Rattle.resolvents.specs.Drafts.{names_of}
+use Rattle.matching.specs.declared.bindings.Table.{Table}
+use Rattle.resolvents.specs.declared.put.Draft.{Draft}
 use Rattle.resolvents.specs.Selecting.{GoalCells, Spans}
 use Rattle.resolvents.specs.declared.resolve.Resolved.{Resolved}
 use Rattle.resolvents.specs.declared.resolve.Resolved.TheVariants.{Nothing, Child, Oversized}
-use Rattle.resolvents.specs.declared.resolve.Attempt.{Attempt}
-use Rattle.resolvents.specs.declared.resolve.Attempt.TheVariants.{Gives, Broken}
 
--- The table and the draft of a run between two clauses: nothing is bound, marked or named, and there is room for every variable.
-pub record Rows (table draft : List ℕ) : Type 0 where
-  pub blank : Blank (bind_of table) (marks_of table)
-  pub unnamed : (v : ℕ) → v < length (names_of draft) → get_or (names_of draft) v 0 ≡ 65535
-  pub table_length : length table ≡ 3840
-  pub draft_length : length draft ≡ 3584
+-- The table and the draft of a run between two clauses: nothing is bound, marked or named.
+pub record Rows (table : Table) (draft : Draft) : Type 0 where
+  pub blank : Blank table.bind table.marks
+  pub empty : table.bound ≡ 0
+  pub none_named : draft.named ≡ 0
 
 -- The first `size` cells are those of the goal g, in which the positive literal p(ts), with `before` and `after` around it, stands from s
 -- up to e; its variables are below n.
@@ -52,7 +50,7 @@ pub record SomeCall (ar cells clause : List ℕ) (size answers s e n : ℕ) : Ty
   pub about : About clause symbols predicate clause'
 
 -- The answer is the derived goal: its words are at the start of `child`; or it exceeds 1,024 words; or there is none.
-abbrev pub IsResolvent : Option Goal → List ℕ → Resolved → Type 0
+abbrev pub IsResolvent : math.Option Goal → List ℕ → Resolved → Type 0
 IsResolvent none child Nothing = Unit {0}
 IsResolvent none child (Child w) = ⊥
 IsResolvent none child Oversized = ⊥
@@ -65,6 +63,6 @@ abbrev pub equations_of : ℕ → Terms → Clause → ℕ
 equations_of n ts c = equations (unify ts (fresh n c.arguments))
 
 -- The same where the unification takes k equations and `left` may be taken: the answer and what is left; or k is more than that.
-abbrev pub IsAttempt : Option Goal → ℕ → ℕ → List ℕ → Attempt → Type 0
-IsAttempt o k left child (Gives r rest) = (k + rest ≡ left) × IsResolvent o child r
-IsAttempt o k left child Broken = left < k
+abbrev pub IsAttempt : math.Option Goal → ℕ → ℕ → List ℕ → Option (Resolved × ℕ) → Type 0
+IsAttempt o k left child (Some x) = (k + x.1 ≡ left) × IsResolvent o child x.0
+IsAttempt o k left child None = left < k

@@ -1,4 +1,3 @@
-pub mod Drafts
 -- What the code's data stand for: variables named in order, the selected literal, the derived goal.
 pub mod Naming
 pub mod Variables

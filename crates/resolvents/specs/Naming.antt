@@ -1,5 +1,5 @@
 -- Variables named in order of first appearance, and what writing terms under these names leaves.
-use Rattle.std.specs.Prelude.{ℕ, ◌+◌, ◌≤◌, ◌<◌, ◌≡◌, true, false, List, [], length, get_or, take}
+use Rattle.std.specs.Prelude.{ℕ, ◌+◌, ◌≤◌, ◌<◌, ◌≡◌, true, false, List, [], length, get_or, take, Result, Ok, Err}
 use Rattle.std.proofs.Math.Seq.{slice}
 use Rattle.std.proofs.lemmas.List.Edits.{sets}
 use Rattle.rules.specs.Terms.{Terms, sizes, vars_terms, renames}
@@ -8,9 +8,9 @@ use Rattle.rules.specs.Cells.{write_terms}
 use Rattle.rules.specs.Goals.{member, appearing, position}
 use Rattle.matching.specs.Taking.{take_t}
 use Rattle.matching.specs.Cells.{reads}
-use Rattle.matching.specs.Bindings.{elims, unbound}
-use Rattle.resolvents.specs.declared.put.Put.{Put}
-use Rattle.resolvents.specs.declared.put.Put.TheVariants.{To, Full}
+use Rattle.matching.specs.Bindings.{elims, alone, unbound}
+use Rattle.matching.specs.declared.bindings.Bound.{Bound}
+use Rattle.resolvents.specs.declared.put.Full.{Full}
 
 -- The terms that the cells from p up to `end` hold. A literal is read as a term.
 abbrev pub within : List ℕ → List ℕ → ℕ → ℕ → Terms
@@ -19,6 +19,16 @@ within ar cells p end = reads ar (slice p end cells)
 -- The first k of them after the eliminations.
 abbrev pub shown : List ℕ → List ℕ → List ℕ → List ℕ → ℕ → ℕ → ℕ → ℕ → Terms
 shown ar cells bs trail n p end k = applys (elims ar cells bs trail n) (take_t k (within ar cells p end))
+
+-- The same by the bindings b: the first k of the terms from p up to `end`; all of them; the term at p.
+abbrev pub first_by : Bound → ℕ → ℕ → ℕ → Terms
+first_by b p end k = shown b.terms.symbols.now b.terms.cells.now b.table.now.bind b.table.now.trail b.table.now.bound p end k
+
+abbrev pub all_by : Bound → ℕ → ℕ → Terms
+all_by b p end = applys (elims b.terms.symbols.now b.terms.cells.now b.table.now.bind b.table.now.trail b.table.now.bound) (within b.terms.symbols.now b.terms.cells.now p end)
+
+abbrev pub alone_by : Bound → ℕ → Terms
+alone_by b p = alone b.terms.symbols.now b.terms.cells.now b.table.now.bind b.table.now.trail b.table.now.bound p
 
 -- The number of v among the variables xs: its position, or 65,535 where it is none of them.
 unfoldable pub name_in : List ℕ → ℕ → ℕ
@@ -31,11 +41,7 @@ pub record Named (names order : List ℕ) (m : ℕ) : Type 0 where
   pub counted : m + unbound names ≡ length names
   pub listed : (i : ℕ) → i < m → get_or order i 0 < length names
   pub given : (v : ℕ) → v < length names → get_or names v 0 ≡ name_in (take m order) v
-
--- What a walk over the cells up to `end` asks of the arrays' lengths.
-pub record Bounds (cells bs names : List ℕ) (end : ℕ) : Type 0 where
-  pub inside : end ≤ length cells
-  pub wide : length bs ≤ length names
+  pub numbered : (i : ℕ) → i < m → get_or names (get_or order i 0) 0 ≡ i
 
 -- The variables named after the terms ts: xs, and then those that are new, in order of first appearance.
 abbrev pub order_after : List ℕ → Terms → List ℕ
@@ -45,17 +51,12 @@ order_after xs ts = appearing xs (vars_terms ts [])
 abbrev pub cells_under : List ℕ → Terms → List ℕ
 cells_under ys ts = write_terms (renames (position ys) ts) []
 
--- How many variables are named.
-abbrev pub named_by : Put → ℕ
-named_by (To e m) = m
-named_by (Full m) = m
-
 -- The place after the terms ts, which stand in the list from `to` on, and the number of variables named; or the terms do not fit.
-abbrev pub PutTells : List ℕ → List ℕ → ℕ → ℕ → Terms → List ℕ → List ℕ → Put → Type 0
-PutTells out order to m ts out' order' (To e m') =
+abbrev pub PutTells : List ℕ → List ℕ → ℕ → ℕ → Terms → List ℕ → List ℕ → ℕ → Result ℕ Full → Type 0
+PutTells out order to m ts out' order' m' (Ok e) =
     (e ≡ to + sizes ts) × (e ≤ length out) × (take m' order' ≡ order_after (take m order) ts) × (out' ≡ sets out to (cells_under (order_after (take m order) ts) ts))
-PutTells out order to m ts out' order' (Full m') = length out < to + sizes ts
+PutTells out order to m ts out' order' m' (Err why) = length out < to + sizes ts
 
-pub record Wrote (out order : List ℕ) (to m : ℕ) (ts : Terms) (out' names' order' : List ℕ) (r : Put) : Type 0 where
-  pub tells : PutTells out order to m ts out' order' r
-  pub kept : Named names' order' (named_by r)
+pub record Wrote (out order : List ℕ) (to m : ℕ) (ts : Terms) (out' names' order' : List ℕ) (m' : ℕ) (r : Result ℕ Full) : Type 0 where
+  pub tells : PutTells out order to m ts out' order' m' r
+  pub kept : Named names' order' m'

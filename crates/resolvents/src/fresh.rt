@@ -10,13 +10,11 @@ pub fn variables(cells: &[u16]) -> usize
     ensures { (ar : List ℕ) (answers : ℕ) (S : List Symbol) (g : Goal) → GoalCells ar cells.now answers S g → result ≡ top_goal g }
 {
     let mut top = 0;
-    let mut i = 0;
-    while i < cells.len() {
-        let c = cells[i] as usize;
+    for &cell in cells {
+        let c = cell as usize;
         if 32768 + top <= c {
             top = c - 32768 + 1;
         }
-        i += 1;
     }
     top
 }
@@ -27,14 +25,7 @@ pub fn copy_fresh(clause: &[u16], cells: &mut [u16], to: usize, n: u16)
     requires by_index { (i : ℕ) → i < length clause.now → get_or clause.now i 0 + n < 65536 }
     ensures { cells.new ≡ sets cells.old to (map (fresh_cell n) clause.now) }
 {
-    let mut i = 0;
-    while i < clause.len() {
-        let c = clause[i];
-        if c < 32768 {
-            cells[to + i] = c;
-        } else {
-            cells[to + i] = c + n;
-        }
-        i += 1;
+    for (i, &c) in clause.iter().enumerate() {
+        cells[to + i] = if c < 32768 { c } else { c + n };
     }
 }

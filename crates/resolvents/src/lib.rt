@@ -5,3 +5,4 @@ pub mod fresh;
 pub mod put;
 pub mod resolve;
 pub mod select;
+pub mod workspace;

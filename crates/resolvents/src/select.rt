@@ -1,34 +1,25 @@
 // The selected literal of a goal, in its cells.
-ghost use Rattle.std.specs.Prelude.{◌≤◌, List, length};
-ghost use Rattle.std.proofs.Math.Seq.{slice};
+ghost use Rattle.std.specs.Prelude.{List};
 ghost use Rattle.rules.specs.Syntax.{Symbol, Goal};
 ghost use Rattle.rules.specs.Resolution.{select};
 ghost use Rattle.resolvents.specs.Variables.{variables_in, NoneOf};
 ghost use Rattle.resolvents.specs.Selecting.{GoalCells, SomeGoal, Selects};
 
-use matching::cells::skip;
+use matching::cells::FlatTerms;
 
 // Nothing, or the place where a positive or a negative literal stands, and the place after it.
-#[derive(Drop)]
+#[derive(Clone, Copy, Debug, PartialEq, Eq)]
 pub enum Selected {
     Nothing,
     Positive(usize, usize),
     Negative(usize, usize),
 }
 
-// Whether no variable stands in the cells from a up to e.
-fn ground(cells: &[u16], a: usize, e: usize) -> bool
-    requires { e ≤ length cells.now }
-    ensures { NoneOf (variables_in (slice a e cells.now)) result }
+// Whether no variable stands in the cells.
+fn ground(cells: &[u16]) -> bool
+    ensures { NoneOf (variables_in cells.now) result }
 {
-    let mut i = a;
-    while i < e {
-        if 32768 <= cells[i] {
-            return false;
-        }
-        i += 1;
-    }
-    true
+    cells.iter().all(|&c| c < 32768)
 }
 
 // The leftmost literal that is positive, or negative without variables. The literals begin at place `answers`.
@@ -36,13 +27,15 @@ pub fn select_literal(cells: &[u16], symbols: &[u16], answers: usize) -> Selecte
     requires { SomeGoal symbols.now cells.now answers }
     ensures { (S : List Symbol) (g : Goal) → GoalCells symbols.now cells.now answers S g → Selects g (select g.literals) result }
 {
+    let terms = FlatTerms { cells, symbols };
     let mut at = answers;
+    // The place moves by a literal's length, which no range steps by.
     while at < cells.len() {
-        let end = skip(cells, symbols, at);
+        let end = terms.skip(at);
         if cells[at] < 16384 {
             return Selected::Positive(at, end);
         }
-        if ground(cells, at, end) {
+        if ground(&cells[at..end]) {
             return Selected::Negative(at, end);
         }
         at = end;

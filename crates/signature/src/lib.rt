@@ -4,8 +4,6 @@
 ghost use Rattle.std.specs.Prelude.{◌<◌, ◌≡◌};
 ghost use Rattle.signature.specs.Symbols.{symbol_count, arity_at, is_predicate};
 
-use words::word;
-
 // The number of symbols.
 pub fn count(symbols: &[u16]) -> usize
     ensures { result ≡ symbol_count symbols.now }
@@ -18,7 +16,7 @@ pub fn arity(symbols: &[u16], n: usize) -> usize
     requires { n < symbol_count symbols.now }
     ensures { result ≡ arity_at symbols.now n }
 {
-    word(symbols, n) % 256
+    usize::from(symbols[n]) % 256
 }
 
 // Whether symbol n is a predicate.
@@ -26,5 +24,5 @@ pub fn is_predicate(symbols: &[u16], n: usize) -> bool
     requires { n < symbol_count symbols.now }
     ensures { result ≡ is_predicate symbols.now n }
 {
-    256 <= word(symbols, n)
+    256 <= symbols[n]
 }

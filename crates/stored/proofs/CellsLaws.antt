@@ -1,13 +1,12 @@
 -- The cells of a goal: one cell of the scan, the scan place by place, and the cells in front of the first literal. Assumes nothing.
 use Prim.Native.Nat.{ℕ, zero, suc, ◌+◌, ◌-◌, ◌≤◌, ◌<◌, max}
-use mathlib.Core.Path.{◌≡◌, refl, ap, ◌∙◌}
+use mathlib.Core.Path.{◌≡◌, refl, ap, sym, ◌∙◌}
 use mathlib.Core.Bool.{Bool, true, false, and-false}
 use mathlib.Core.List.{List, [], ◌∷◌}
 use native.Mathlib.Omega.{arith}
 use native.Mathlib.Numerals.{add-one}
-use lib.ListN.{length, drop, drop_of_length-le, length-drop}
+use lib.ListN.{length, drop, length-drop}
 use lib.Seq.{drop-cons}
-use types.Run.{miss}
 use borrow.Author.Tests.{le-leb, lt-leb}
 use Rattle.rules.specs.Syntax.{Symbol}
 use Rattle.rules.specs.Cells.{read_cell}
@@ -15,11 +14,9 @@ use Rattle.deck.specs.declared.kinds.Kind.{Kind}
 use Rattle.deck.specs.declared.kinds.Kind.TheVariants.{Variable, Function, Positive, Negative, Invalid}
 use Rattle.deck.specs.Kinds.{kind_of}
 use Rattle.deck.specs.Scan.{scan_cell, scan}
-use Rattle.deck.proofs.KindLaws.{Others}
 use Rattle.deck.proofs.WalkLaws.{kind_at, scan-end}
-use Rattle.stored.specs.declared.Turn.{Turn}
-use Rattle.stored.specs.declared.Turn.TheVariants.{On, Wrong}
-use Rattle.stored.specs.Passing.{Stepped, lead_cell, lead}
+use Rattle.std.specs.Prelude.{Option, Some, None}
+use Rattle.stored.specs.Passing.{Stepped}
 
 -- ONE CELL
 on-variable : (v todo next : ℕ) (go : ℕ → ℕ → Bool) → (todo ≡ 0 → ⊥) → v ≤ next → scan_cell (Variable v) todo next go ≡ go (todo - 1) (max next (suc v))
@@ -33,11 +30,11 @@ on-function k zero next go h = absurd (h refl)
 on-function k (suc t) next go h = let z : suc t - 1 ≡ t = omega arith in rw z
 
 module _ (room todo next : ℕ) (kind : Kind) where
-  pub variable-none : (v : ℕ) → kind ≡ Variable v → todo ≡ 0 → Stepped room kind todo next Wrong
+  pub variable-none : (v : ℕ) → kind ≡ Variable v → todo ≡ 0 → Stepped room kind todo next None
   unfolding scan_cell
   variable-none v e z go h = rw (e, z)
 
-  pub variable-late : (v : ℕ) → kind ≡ Variable v → (todo ≡ 0 → ⊥) → next < v → Stepped room kind todo next Wrong
+  pub variable-late : (v : ℕ) → kind ≡ Variable v → (todo ≡ 0 → ⊥) → next < v → Stepped room kind todo next None
   unfolding scan_cell
   variable-late v e z l go h = rw e (late todo z)
     where
@@ -45,45 +42,38 @@ module _ (room todo next : ℕ) (kind : Kind) where
       late zero z = absurd (z refl)
       late (suc t) z = rw (lt-leb v next l)
 
-  pub variable-new : (v : ℕ) → kind ≡ Variable v → (todo ≡ 0 → ⊥) → v ≡ next → todo ≤ room + 1 → Stepped room kind todo next (On (todo - 1) (next + 1))
-  variable-new v e z q f =
-      let m : max next (suc v) ≡ next + 1 = omega arith in
-      (omega arith, omega arith, λ go. rw e (on-variable v todo next go z (omega arith) ∙ ap (go (todo - 1)) m))
+  pub variable-on : (v more : ℕ) → kind ≡ Variable v → (todo ≡ 0 → ⊥) → v ≤ next → todo ≤ room + 1 → more ≡ max next (suc v) → Stepped room kind todo next (Some (todo - 1, more))
+  variable-on v more e z l f m = (omega arith, omega arith, λ go. rw e (on-variable v todo next go z l ∙ ap (go (todo - 1)) (sym m)))
 
-  pub variable-old : (v : ℕ) → kind ≡ Variable v → (todo ≡ 0 → ⊥) → v ≤ next → (v ≡ next → ⊥) → todo ≤ room + 1 → Stepped room kind todo next (On (todo - 1) next)
-  variable-old v e z l q f =
-      let m : max next (suc v) ≡ next = omega arith in
-      (omega arith, omega arith, λ go. rw e (on-variable v todo next go z l ∙ ap (go (todo - 1)) m))
-
-  pub function-none : (k : ℕ) → kind ≡ Function k → todo ≡ 0 → Stepped room kind todo next Wrong
+  pub function-none : (k : ℕ) → kind ≡ Function k → todo ≡ 0 → Stepped room kind todo next None
   unfolding scan_cell
   function-none k e z go h = rw (e, z)
 
-  pub function-many : (k : ℕ) → kind ≡ Function k → (todo ≡ 0 → ⊥) → todo ≤ room + 1 → room - (todo - 1) < k → Stepped room kind todo next Wrong
+  pub function-many : (k : ℕ) → kind ≡ Function k → (todo ≡ 0 → ⊥) → todo ≤ room + 1 → room - (todo - 1) < k → Stepped room kind todo next None
   function-many k e z f l go h = rw e (on-function k todo next go z ∙ h (k + (todo - 1)) next (omega arith))
 
-  pub function-on : (k : ℕ) → kind ≡ Function k → (todo ≡ 0 → ⊥) → todo ≤ room + 1 → k ≤ room - (todo - 1) → Stepped room kind todo next (On (k + (todo - 1)) next)
+  pub function-on : (k : ℕ) → kind ≡ Function k → (todo ≡ 0 → ⊥) → todo ≤ room + 1 → k ≤ room - (todo - 1) → Stepped room kind todo next (Some ((k + (todo - 1)), next))
   function-on k e z f l = (omega arith, omega arith, λ go. rw e (on-function k todo next go z))
 
-  pub no_cell : kind ≡ Invalid → Stepped room kind todo next Wrong
+  pub no_cell : kind ≡ Invalid → Stepped room kind todo next None
   unfolding scan_cell
   no_cell e go h = rw e
 
-  pub as-positive : (k : ℕ) → kind ≡ Positive k → (r : Turn) → Stepped room (Positive k) todo next r → Stepped room kind todo next r
-  as-positive k e (On t n) w = (w.0, w.1, λ go. rw e (w.2 go))
-  as-positive k e Wrong w = λ go h. rw e (w go h)
+  pub as-positive : (k : ℕ) → kind ≡ Positive k → (r : Option (ℕ × ℕ)) → Stepped room (Positive k) todo next r → Stepped room kind todo next r
+  as-positive k e (Some p) w = (w.0, w.1, λ go. rw e (w.2 go))
+  as-positive k e None w = λ go h. rw e (w go h)
 
   negated : (k t n : ℕ) (go : ℕ → ℕ → Bool) → scan_cell (Negative k) t n go ≡ scan_cell (Positive k) t n go
   unfolding scan_cell
   negated k zero n go = refl
   negated k (suc t) n go = refl
 
-  pub as-negative : (k : ℕ) → kind ≡ Negative k → (r : Turn) → Stepped room (Positive k) todo next r → Stepped room kind todo next r
-  as-negative k e (On t n) w = (w.0, w.1, λ go. rw e (negated k todo next go ∙ w.2 go))
-  as-negative k e Wrong w = λ go h. rw e (negated k todo next go ∙ w go h)
+  pub as-negative : (k : ℕ) → kind ≡ Negative k → (r : Option (ℕ × ℕ)) → Stepped room (Positive k) todo next r → Stepped room kind todo next r
+  as-negative k e (Some p) w = (w.0, w.1, λ go. rw e (negated k todo next go ∙ w.2 go))
+  as-negative k e None w = λ go h. rw e (negated k todo next go ∙ w go h)
 
 module _ (k room todo next : ℕ) where
-  pub predicate-within : 0 < todo → Stepped room (Positive k) todo next Wrong
+  pub predicate-within : 0 < todo → Stepped room (Positive k) todo next None
   unfolding scan_cell
   predicate-within h go f = go_on todo h
     where
@@ -91,11 +81,11 @@ module _ (k room todo next : ℕ) where
       go_on zero h = absurd (omega arith)
       go_on (suc t) h = refl
 
-  pub predicate-many : todo ≡ 0 → room < k → Stepped room (Positive k) todo next Wrong
+  pub predicate-many : todo ≡ 0 → room < k → Stepped room (Positive k) todo next None
   unfolding scan_cell
   predicate-many z l go f = rw z (f k next l)
 
-  pub predicate-on : todo ≡ 0 → k ≤ room → Stepped room (Positive k) todo next (On k next)
+  pub predicate-on : todo ≡ 0 → k ≤ room → Stepped room (Positive k) todo next (Some (k, next))
   unfolding scan_cell
   predicate-on z l = (l, omega arith, λ go. rw z)
 
@@ -120,38 +110,11 @@ module _ (S : List Symbol) (cells : List ℕ) (at todo next : ℕ) (h : at < len
   unfolding scan
   scan-cell = rw (add-one at, drop-cons cells at 0 h)
 
-  pub row_next : (kind : Kind) (room t n : ℕ) → kind ≡ kind_at S cells at → Stepped room kind todo next (On t n) → scan S (drop at cells) todo next ≡ scan S (drop (at + 1) cells) t n
+  pub row_next : (kind : Kind) (room t n : ℕ) → kind ≡ kind_at S cells at → Stepped room kind todo next (Some (t, n)) → scan S (drop at cells) todo next ≡ scan S (drop (at + 1) cells) t n
   row_next kind room t n e w = scan-cell ∙ rw (← e) (w.2 (scan S (drop (at + 1) cells)))
 
-  pub row-wrong : (kind : Kind) → kind ≡ kind_at S cells at → Stepped (length cells - at - 1) kind todo next Wrong → scan S (drop at cells) todo next ≡ false
+  pub row-wrong : (kind : Kind) → kind ≡ kind_at S cells at → Stepped (length cells - at - 1) kind todo next None → scan S (drop at cells) todo next ≡ false
   row-wrong kind e w = scan-cell ∙ rw (← e) (w (scan S (drop (at + 1) cells)) (λ t n l. row-few S (drop (at + 1) cells) t n (omega (arith, length-drop (at + 1) cells))))
 
 pub row-end : (S : List Symbol) (cells : List ℕ) (at todo next : ℕ) → length cells ≤ at → todo ≤ length cells - at → scan S (drop at cells) todo next ≡ true
 row-end S cells at todo next h l = let z : todo ≡ 0 = omega arith in rw z (scan-end S cells at next h)
-
--- THE CELLS IN FRONT OF THE FIRST LITERAL
-other-lead : (k : Kind) (n : ℕ) → Others (0 ∷ 1 ∷ 4 ∷ []) k → lead_cell k n ≡ suc n
-other-lead (Variable v) n h = refl
-other-lead (Function k) n h = refl
-other-lead (Positive k) n h = absurd (miss (0 ∷ 1 ∷ 4 ∷ []) 2 tt h)
-other-lead (Negative k) n h = absurd (miss (0 ∷ 1 ∷ 4 ∷ []) 3 tt h)
-other-lead Invalid n h = refl
-
-module _ (S : List Symbol) (cells : List ℕ) (at : ℕ) where
-  pub lead-end : length cells ≤ at → lead S (drop at cells) ≡ 0
-  unfolding lead
-  lead-end h = rw (drop_of_length-le cells h)
-
-  module _ (h : at < length cells) (kind : Kind) (e : kind ≡ kind_at S cells at) where
-    lead-cell : lead S (drop at cells) ≡ lead_cell kind (lead S (drop (at + 1) cells))
-    unfolding lead
-    lead-cell = rw (e, add-one at, drop-cons cells at 0 h)
-
-    pub lead-positive : (k : ℕ) → kind ≡ Positive k → lead S (drop at cells) ≡ 0
-    lead-positive k q = lead-cell ∙ rw q
-
-    pub lead-negative : (k : ℕ) → kind ≡ Negative k → lead S (drop at cells) ≡ 0
-    lead-negative k q = lead-cell ∙ rw q
-
-    pub lead-other : Others (0 ∷ 1 ∷ 4 ∷ []) kind → lead S (drop at cells) ≡ suc (lead S (drop (at + 1) cells))
-    lead-other o = lead-cell ∙ other-lead kind (lead S (drop (at + 1) cells)) o

@@ -24,10 +24,9 @@ use Rattle.deck.specs.Kinds.{kind_of, symbols_of}
 use Rattle.deck.specs.Scan.{scan}
 use Rattle.deck.proofs.ScanLaws.{scan_row, scan-row}
 use Rattle.deck.proofs.OpenLaws.{accepted-symbols}
-use Rattle.stored.specs.declared.Found.{Found}
-use Rattle.stored.specs.declared.Found.TheVariants.{Until, Nothing}
-use Rattle.stored.specs.declared.Place.TheVariants.{At, Nowhere}
-use Rattle.stored.specs.Passing.{lead_cell, lead, mark_fits, fits_as, before, GoalAt, GoalFound, Passed, GoalsFound, ParkedFound, OpenFound}
+use Rattle.std.specs.Prelude.{Some, None}
+use Rattle.stored.specs.Passing.{no_predicate, leads, lead, mark_fits, fits_as, GoalAt, GoalFound, Passed, GoalsFound, OpenFound}
+use Rattle.stored.specs.Before.{before}
 
 -- MARKS
 pub mark-none : (parked : Bool) (mark : ℕ) → parked ≡ true → mark ≡ 0 → false ≡ mark_fits parked mark
@@ -90,18 +89,18 @@ module _ (terms : ℕ) (m : Marked) where
   parts-fit true f = rw ((and-eq-true_iff (leb 1 (mark_number m.mark)) _).0 f.mark).0 (parts-goal true f)
 
 -- THE CELLS IN FRONT OF THE FIRST LITERAL are the answer terms'.
-variable-leads : (S : List Symbol) (v n : ℕ) → lead_cell (kind_of (read_cell S (32768 + v))) n ≡ suc n
+variable-leads : (S : List Symbol) (v : ℕ) → leads S (32768 + v) ≡ true
 unfolding read_cell variable_cell
-variable-leads S v n =
+variable-leads S v =
     rw (le-leb 32768 (32768 + v) (omega arith), read_cell)
-    (either (λ c. lead_cell (kind_of c) n ≡ suc n) (leb (32768 + v - 32768) 1023) (variable (32768 + v - 32768)) invalid (λ e. refl) (λ e. refl))
+    (either (λ c. no_predicate (kind_of c) ≡ true) (leb (32768 + v - 32768) 1023) (variable (32768 + v - 32768)) invalid (λ e. refl) (λ e. refl))
 
 mutual
   unfolding lead
 
   term-leads : (S : List Symbol) (t : Term) (rest : List ℕ) → WfTerm S t → lead S (write_term t rest) ≡ size t + lead S rest
-  term-leads S (var v) rest w = variable-leads S v (lead S rest) ∙ omega arith
-  term-leads S (app f ts) rest w = ap (λ c. lead_cell (kind_of c) (lead S (write_terms ts rest))) w.0 ∙ omega (arith, terms-lead S ts rest w.1)
+  term-leads S (var v) rest w = rw (variable-leads S v) (omega arith)
+  term-leads S (app f ts) rest w = rw w.0 (omega (arith, terms-lead S ts rest w.1))
 
   terms-lead : (S : List Symbol) (ts : Terms) (rest : List ℕ) → WfTerms S ts → lead S (write_terms ts rest) ≡ sizes ts + lead S rest
   terms-lead S nil rest w = omega arith
@@ -110,8 +109,8 @@ mutual
 literals-lead : (S : List Symbol) (ls : List Literal) → WfLiterals S ls → lead S (write_literals ls) ≡ 0
 unfolding lead
 literals-lead S [] w = refl
-literals-lead S (pos p ts ∷ ls) w = ap (λ c. lead_cell (kind_of c) (lead S (write_terms ts (write_literals ls)))) w.0.0
-literals-lead S (neg p ts ∷ ls) w = ap (λ c. lead_cell (kind_of c) (lead S (write_terms ts (write_literals ls)))) w.0.0
+literals-lead S (pos p ts ∷ ls) w = rw w.0.0
+literals-lead S (neg p ts ∷ ls) w = rw w.0.0
 
 row-leads : (S : List Symbol) (ts : Terms) (ls : List Literal) → WfTerms S ts → WfLiterals S ls → lead S (write_terms ts (write_literals ls)) ≡ sizes ts
 row-leads S ts ls w v = omega (arith, terms-lead S ts (write_literals ls) w, literals-lead S ls v)
@@ -220,7 +219,7 @@ module _ (S : List Symbol) (parked : Bool) (terms : ℕ) (store : List ℕ) (at 
   here : get_or (drop at store) 0 0 ≡ w
   here = get_or-drop at store 0 0 ∙ ap (λ i. get_or store i 0) (let z : at + 0 ≡ at = omega arith in z) ∙ sym ew
 
-  pub no-goal : (a : ℕ) → a ≡ get_or store (at + 1) 0 → (Tested S parked terms (drop at store) w a (w % 4096) → ⊥) → GoalFound S (fits_as parked terms) store at Nowhere
+  pub no-goal : (a : ℕ) → a ≡ get_or store (at + 1) 0 → (Tested S parked terms (drop at store) w a (w % 4096) → ⊥) → GoalFound S (fits_as parked terms) store at None
   no-goal a ea h m rest e t =
       let second : get_or (drop at store) 1 0 ≡ a = get_or-drop at store 1 0 ∙ sym ea in
       h (subst (λ x. Tested S parked terms (drop at store) x a (x % 4096)) here
@@ -230,7 +229,7 @@ module _ (S : List Symbol) (parked : Bool) (terms : ℕ) (store : List ℕ) (at 
     same-cells : take (at + n - (at + 2)) (drop (at + 2) store) ≡ take (n - 2) (drop 2 (drop at store))
     same-cells = let z : at + n - (at + 2) ≡ n - 2 = omega arith in ap₂ take z (sym (drop-drop 2 at store))
 
-    pub no_cells : cells_test S terms (take (at + n - (at + 2)) (drop (at + 2) store)) a ≡ false → GoalFound S (fits_as parked terms) store at Nowhere
+    pub no_cells : cells_test S terms (take (at + n - (at + 2)) (drop (at + 2) store)) a ≡ false → GoalFound S (fits_as parked terms) store at None
     no_cells f = no-goal a ea (λ t.
         let p : cells_test S terms (take (n - 2) (drop 2 (drop at store))) a ≡ true = subst (λ k. cells_test S terms (take (k - 2) (drop 2 (drop at store))) a ≡ true) (sym en) t.cells in
         false≢true (sym f ∙ ap (λ c. cells_test S terms c a) same-cells ∙ p))
@@ -290,9 +289,9 @@ words_more [] m = omega arith
 words_more (g ∷ gs) m = omega (arith, words_more gs m)
 
 module _ (S : List Symbol) (test : Marked → Bool) (store : List ℕ) where
-  pub pass-start : (at count : ℕ) → at ≤ length store → (q : Passed S test store at at) × (length q.goals + count ≡ count)
+  pub pass-start : (at : ℕ) → at ≤ length store → (q : Passed S test store at at) × (length q.goals ≡ 0)
   unfolding every
-  pass-start at count h = (
+  pass-start at h = (
     record {
       goals = [];
       reads = λ k. let z : 0 + k ≡ k = omega arith in ap (λ i. read_goals S i (drop at store)) z ∙ before-none (read_goals S k (drop at store));
@@ -300,11 +299,11 @@ module _ (S : List Symbol) (test : Marked → Bool) (store : List ℕ) where
       words = omega arith;
       inside = h;
     },
-    omega arith,
+    refl,
   )
 
-  module _ (at place left many : ℕ) (p : Passed S test store at place) (e : length p.goals + left ≡ many) (h : 0 < left) where
-    pub pass-more : (end : ℕ) → GoalAt S test store place end → (q : Passed S test store at end) × (length q.goals + (left - 1) ≡ many)
+  module _ (at place passed : ℕ) (p : Passed S test store at place) (e : length p.goals ≡ passed) where
+    pub pass-more : (end : ℕ) → GoalAt S test store place end → (q : Passed S test store at end) × (length q.goals ≡ passed + 1)
     unfolding read_goals goals_after
     pass-more end g = (
       record {
@@ -321,22 +320,25 @@ module _ (S : List Symbol) (test : Marked → Bool) (store : List ℕ) where
       omega (arith, length-append p.goals (g.goal ∷ [])),
     )
 
-    pub pass-none : GoalFound S test store place Nowhere → GoalsFound S test store at many Nowhere
+    pub pass-none : (many : ℕ) → passed < many → GoalFound S test store place None → GoalsFound S test store at many None
     unfolding read_goals goals_after with_goal before
-    pass-none never k ms r t =
-        let z : many + k ≡ length p.goals + suc (left - 1 + k) = omega arith in
-        go (read_goal S (drop place store)) refl (sym (ap (λ i. read_goals S i (drop at store)) z ∙ p.reads (suc (left - 1 + k))) ∙ r)
+    pass-none many h never k ms r t =
+        let z : many + k ≡ length p.goals + suc (left + k) = omega arith in
+        go (read_goal S (drop place store)) refl (sym (ap (λ i. read_goals S i (drop at store)) z ∙ p.reads (suc (left + k))) ∙ r)
       where
+        left : ℕ
+        left = many - passed - 1
+
         others : (m : Marked) → test m ≡ false → (o : Option (List Marked)) → before p.goals (with_goal m o) ≡ some ms → ⊥
         others m f none q = none-ne-some ms q
         others m f (some ns) q =
             false≢true (sym f ∙ every-at test p.goals m ns many (omega arith) (subst (λ x. every test (take many x) ≡ true) (sym (some-injective _ ms q)) t))
 
-        tested : (m : Marked) (rest : List ℕ) → read_goal S (drop place store) ≡ some (goal_read m rest) → (b : Bool) → test m ≡ b → before p.goals (with_goal m (read_goals S (left - 1 + k) rest)) ≡ some ms → ⊥
+        tested : (m : Marked) (rest : List ℕ) → read_goal S (drop place store) ≡ some (goal_read m rest) → (b : Bool) → test m ≡ b → before p.goals (with_goal m (read_goals S (left + k) rest)) ≡ some ms → ⊥
         tested m rest a true b q = never m rest a b
-        tested m rest a false b q = others m b (read_goals S (left - 1 + k) rest) q
+        tested m rest a false b q = others m b (read_goals S (left + k) rest) q
 
-        go : (o : Option GoalRead) → read_goal S (drop place store) ≡ o → before p.goals (goals_after (λ rest. read_goals S (left - 1 + k) rest) o) ≡ some ms → ⊥
+        go : (o : Option GoalRead) → read_goal S (drop place store) ≡ o → before p.goals (goals_after (λ rest. read_goals S (left + k) rest) o) ≡ some ms → ⊥
         go none a q = none-ne-some ms q
         go (some (goal_read m rest)) a q = tested m rest a (test m) refl q
 
@@ -370,17 +372,17 @@ module _ (S : List Symbol) (store : List ℕ) (n k terms : ℕ) where
       go none r = refl
       go (some ms) r = tested ms r _ refl
 
-  pub none-pending : GoalsFound S (fits_as false terms) store 0 n Nowhere → OpenFound S store n k terms Nothing
+  pub none-pending : GoalsFound S (fits_as false terms) store 0 n None → OpenFound S store n k terms None
   none-pending h = not-open (λ ms r p q. h k ms r p)
 
-  module _ (middle : ℕ) (f : GoalsFound S (fits_as false terms) store 0 n (At middle)) where
+  module _ (middle : ℕ) (f : GoalsFound S (fits_as false terms) store 0 n (Some middle)) where
     first_part : read_goals S (n + k) store ≡ before f.0.goals (read_goals S k (drop middle store))
     first_part = ap (λ i. read_goals S (i + k) store) (sym f.1) ∙ f.0.reads k
 
     zero_more : k ≡ k + 0
     zero_more = omega arith
 
-    pub all-open : (end : ℕ) → GoalsFound S (fits_as true terms) store middle k (At end) → OpenFound S store n k terms (Until middle end)
+    pub all-open : (end : ℕ) → GoalsFound S (fits_as true terms) store middle k (Some end) → OpenFound S store n k terms (Some (middle, end))
     unfolding read_open read_goals before
     all-open end g =
         let gs = f.0.goals in
@@ -395,7 +397,7 @@ module _ (S : List Symbol) (store : List ℕ) (n k terms : ℕ) where
           g.0.inside,
         )
 
-    pub none-parked : GoalsFound S (fits_as true terms) store middle k Nowhere → OpenFound S store n k terms Nothing
+    pub none-parked : GoalsFound S (fits_as true terms) store middle k None → OpenFound S store n k terms None
     unfolding before
     none-parked h = not-open (λ ms r p q. go ms r q (read_goals S k (drop middle store)) refl)
       where
@@ -407,11 +409,6 @@ module _ (S : List Symbol) (store : List ℕ) (n k terms : ℕ) where
             h 0 ns (ap (λ i. read_goals S i (drop middle store)) (sym zero_more) ∙ e)
             (every_take (fits_as true terms) k ns (subst (λ x. every (parked_fits terms) x ≡ true) rest q))
 
-  pub open_after : (middle : ℕ) → GoalsFound S (fits_as false terms) store 0 n (At middle) → (r : Found) → ParkedFound S store middle k terms r → OpenFound S store n k terms r
-  open_after middle f (Until m end) g = subst (λ i. OpenFound S store n k terms (Until i end)) (sym g.0) (all-open middle f end g.1)
-  open_after middle f Nothing g = none-parked middle f g
-
--- Over an opened deck.
-pub deck-found : (ws : List ℕ) (d : Deck) → open_deck ws ≡ accepted d → (symbols store : List ℕ) (n k terms : ℕ) (r : Found) → symbols ≡ symbol_words ws
-    → OpenFound (symbols_of symbols) store n k terms r → OpenFound d.symbols store n k terms r
-deck-found ws d e symbols store n k terms r s h = subst (λ S. OpenFound S store n k terms r) (ap symbols_of s ∙ sym (accepted-symbols ws d e)) h
+-- An opened deck has the symbols of its symbol words.
+pub deck-symbols : (ws symbols : List ℕ) (d : Deck) → open_deck ws ≡ accepted d → symbols ≡ symbol_words ws → symbols_of symbols ≡ d.symbols
+deck-symbols ws symbols d e s = ap symbols_of s ∙ sym (accepted-symbols ws d e)

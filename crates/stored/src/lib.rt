@@ -8,77 +8,52 @@ ghost use Rattle.rules.specs.Decks.{header_fits, open_deck};
 ghost use Rattle.deck.specs.Kinds.{symbols_of};
 ghost use Rattle.deck.specs.Scan.{scan};
 ghost use Rattle.deck.specs.declared.kinds.Kind.TheVariants.{Positive};
-ghost use Rattle.stored.specs.Passing.{Stepped, lead, fits_as, mark_fits, GoalFound, GoalsFound, ParkedFound, OpenFound};
+ghost use Rattle.stored.specs.Passing.{Stepped, lead, fits_as, mark_fits, leads, GoalFound, GoalsFound, OpenFound};
 
 use deck::kinds::Kind;
 use deck::{kinds, parts};
-use words::wide;
 
-// The number of terms still to come and of variables that have appeared after a cell, or that no such cell may stand there.
-#[derive(Drop)]
-pub enum Turn {
-    On(usize, usize),
-    Wrong,
-}
-
-// The place after goals, or that there are no such goals.
-#[derive(Drop)]
-pub enum Place {
-    At(usize),
-    Nowhere,
-}
-
-// Open goals: the place after the pending ones, and after the parked ones; or that there are no such goals.
-#[derive(Drop)]
-pub enum Found {
-    Until(usize, usize),
-    Nothing,
-}
-
-// One cell, with `room` cells after it, where `todo` terms are to come and `next` variables have appeared.
-fn step(kind: Kind, room: usize, todo: usize, next: usize) -> Turn
+// One cell, with `room` cells after it, where `todo` terms are to come and `next` variables have appeared: the two numbers after it, or none where no such cell may stand.
+fn step(kind: Kind, room: usize, todo: usize, next: usize) -> Option<(usize, usize)>
     requires { (next ≤ 1022) × (todo ≤ room + 1) }
     ensures { Stepped room kind todo next result }
 {
     match kind {
         Kind::Variable(v) => {
             if todo == 0 {
-                return Turn::Wrong;
+                return None;
             }
             if next < v {
-                return Turn::Wrong;
+                return None;
             }
-            if v == next {
-                return Turn::On(todo - 1, next + 1);
-            }
-            Turn::On(todo - 1, next)
+            Some((todo - 1, next.max(v + 1)))
         }
         Kind::Function(k) => {
             if todo == 0 {
-                return Turn::Wrong;
+                return None;
             }
             if room - (todo - 1) < k {
-                return Turn::Wrong;
+                return None;
             }
-            Turn::On(k + (todo - 1), next)
+            Some((k + (todo - 1), next))
         }
         Kind::Positive(k) => predicate(k, room, todo, next),
         Kind::Negative(k) => predicate(k, room, todo, next),
-        Kind::Invalid => Turn::Wrong,
+        Kind::Invalid => None,
     }
 }
 
 // A predicate's cell, negated or not.
-fn predicate(arity: usize, room: usize, todo: usize, next: usize) -> Turn
+fn predicate(arity: usize, room: usize, todo: usize, next: usize) -> Option<(usize, usize)>
     ensures { Stepped room (Positive arity) todo next result }
 {
     if 0 < todo {
-        return Turn::Wrong;
+        return None;
     }
     if room < arity {
-        return Turn::Wrong;
+        return None;
     }
-    Turn::On(arity, next)
+    Some((arity, next))
 }
 
 // So many terms and then literals, numbered in order of first appearance.
@@ -91,46 +66,36 @@ fn row(symbols: &[u16], cells: &[u16], terms: u64) -> bool
     }
     let mut todo = terms as usize;
     let mut next = 0;
-    let mut at = 0;
-    while at < cells.len() {
-        match step(
-            kinds::read(symbols, cells[at]),
-            cells.len() - at - 1,
-            todo,
-            next,
-        ) {
-            Turn::On(t, n) => {
-                todo = t;
-                next = n;
-                at += 1;
-            }
-            Turn::Wrong => {
-                return false;
-            }
-        }
+    for (at, cell) in cells.iter().enumerate() {
+        let kind = kinds::read(symbols, *cell);
+        let Some((t, n)) = step(kind, cells.len() - at - 1, todo, next) else {
+            return false;
+        };
+        todo = t;
+        next = n;
     }
     true
 }
 
+// Whether a cell is no predicate's.
+fn leads(symbols: &[u16], cell: u16) -> bool
+    ensures { result ≡ leads (symbols_of symbols.now) cell }
+{
+    !matches!(
+        kinds::read(symbols, cell),
+        Kind::Positive(_) | Kind::Negative(_)
+    )
+}
+
 // The number of cells in front of the first literal.
+#[tactic(auto, unfolding(crate::specs::Passing::lead))]
 fn front(symbols: &[u16], cells: &[u16]) -> usize
     ensures { result ≡ lead (symbols_of symbols.now) cells.now }
 {
-    let mut at = 0;
-    while at < cells.len() {
-        match kinds::read(symbols, cells[at]) {
-            Kind::Positive(_) => {
-                return at;
-            }
-            Kind::Negative(_) => {
-                return at;
-            }
-            _ => {
-                at += 1;
-            }
-        }
-    }
-    at
+    cells
+        .iter()
+        .take_while(|cell| leads(symbols, **cell))
+        .count()
 }
 
 // The cells of a goal of so many answer terms, which take `answers` cells.
@@ -139,10 +104,7 @@ fn cells_fit(symbols: &[u16], cells: &[u16], answers: usize, terms: u64) -> bool
     ensures { result ≡ (scan (symbols_of symbols.now) cells.now terms 0
         && eqb (lead (symbols_of symbols.now) cells.now) answers) }
 {
-    if !row(symbols, cells, terms) {
-        return false;
-    }
-    front(symbols, cells) == answers
+    row(symbols, cells, terms) && front(symbols, cells) == answers
 }
 
 // Pending goals are marked 0 and parked ones 1 to 4.
@@ -150,89 +112,86 @@ fn mark_fits(mark: usize, parked: bool) -> bool
     ensures { result ≡ mark_fits parked mark }
 {
     if parked {
-        if mark == 0 {
-            return false;
-        }
-        return mark <= 4;
+        1 <= mark && mark <= 4
+    } else {
+        mark == 0
     }
-    mark == 0
 }
 
-// The goal at place `at`.
-fn goal(symbols: &[u16], store: &[u16], at: usize, terms: u64, parked: bool) -> Place
+// The place after the goal at place `at`.
+// Five parameters and no type that holds them: a caller makes one call with them, and would make the value for it.
+fn goal(symbols: &[u16], store: &[u16], at: usize, terms: u64, parked: bool) -> Option<usize>
     requires { at ≤ length store.now }
     ensures { GoalFound (symbols_of symbols.now) (fits_as parked terms) store.now at result }
 {
     if store.len() - at < 2 {
-        return Place::Nowhere;
+        return None;
     }
-    let first = wide(store[at]);
-    let answers = wide(store[at + 1]);
+    let first = usize::from(store[at]);
+    let answers = usize::from(store[at + 1]);
     let n = first % 4096;
     if !mark_fits(first / 4096, parked) {
-        return Place::Nowhere;
+        return None;
     }
     if n < 2 {
-        return Place::Nowhere;
+        return None;
     }
     if 1024 < n {
-        return Place::Nowhere;
+        return None;
     }
     if store.len() - at < n {
-        return Place::Nowhere;
+        return None;
     }
     let from = at + 2;
     let end = at + n;
     if !cells_fit(symbols, &store[from..end], answers, terms) {
-        return Place::Nowhere;
+        return None;
     }
-    Place::At(end)
+    Some(end)
 }
 
-// `count` goals from place `at` on.
-fn goals(symbols: &[u16], store: &[u16], at: usize, count: u64, terms: u64, parked: bool) -> Place
+// The place after `count` goals from place `at` on.
+fn goals(
+    symbols: &[u16],
+    store: &[u16],
+    at: usize,
+    count: u64,
+    terms: u64,
+    parked: bool,
+) -> Option<usize>
     requires { at ≤ length store.now }
     ensures { GoalsFound (symbols_of symbols.now) (fits_as parked terms) store.now at count result }
 {
-    let mut left = count;
     let mut place = at;
-    while 0 < left {
-        match goal(symbols, store, place, terms, parked) {
-            Place::At(end) => {
-                place = end;
-                left -= 1;
-            }
-            Place::Nowhere => {
-                return Place::Nowhere;
-            }
-        }
+    for _ in 0..count {
+        place = goal(symbols, store, place, terms, parked)?;
     }
-    Place::At(place)
+    Some(place)
 }
 
-// The open goals, pending ones first.
-pub fn open_goals(symbols: &[u16], store: &[u16], pending: u64, parked: u64, terms: u64) -> Found
+// The open goals, pending ones first: the place after those, and the place after the parked ones.
+pub fn open_goals(
+    symbols: &[u16],
+    store: &[u16],
+    pending: u64,
+    parked: u64,
+    terms: u64,
+) -> Option<(usize, usize)>
     ensures { OpenFound (symbols_of symbols.now) store.now pending parked terms result }
 {
-    match goals(symbols, store, 0, pending, terms, false) {
-        Place::At(middle) => with_parked(symbols, store, middle, parked, terms),
-        Place::Nowhere => Found::Nothing,
-    }
-}
-
-// The parked goals, after the pending ones that end at `middle`.
-fn with_parked(symbols: &[u16], store: &[u16], middle: usize, parked: u64, terms: u64) -> Found
-    requires { middle ≤ length store.now }
-    ensures { ParkedFound (symbols_of symbols.now) store.now middle parked terms result }
-{
-    match goals(symbols, store, middle, parked, terms, true) {
-        Place::At(end) => Found::Until(middle, end),
-        Place::Nowhere => Found::Nothing,
-    }
+    let middle = goals(symbols, store, 0, pending, terms, false)?;
+    let end = goals(symbols, store, middle, parked, terms, true)?;
+    Some((middle, end))
 }
 
 // The same over an opened deck.
-pub fn deck_goals(deck: &[u16], store: &[u16], pending: u64, parked: u64, terms: u64) -> Found
+pub fn deck_goals(
+    deck: &[u16],
+    store: &[u16],
+    pending: u64,
+    parked: u64,
+    terms: u64,
+) -> Option<(usize, usize)>
     requires { header_fits deck.now ≡ true }
     ensures { (d : Deck) → open_deck deck.now ≡ accepted d → OpenFound d.symbols store.now pending parked terms result }
 {

@@ -1,8 +1,8 @@
-pub mod ClassLaws
 pub mod ScanLaws
 pub mod TokenLaws
-pub mod NameLaws
 pub mod GrammarLaws
 pub mod ReadLaws
 pub mod CountLaws
+pub mod NameLaws
 pub mod NumberLaws
+pub mod ClassLaws

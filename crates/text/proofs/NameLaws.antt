@@ -1,51 +1,30 @@
--- The table of names: hashes and comparisons byte by byte, and the chain of a bucket.
-use Prim.Native.Nat.{ℕ, zero, suc, ◌+◌, ◌*◌, ◌%◌, ◌-◌, ◌≤◌, ◌<◌}
-use mathlib.Core.Path.{◌≡◌, refl, ap, ap₂, sym, ◌∙◌, subst}
-use mathlib.Core.Bool.{Bool, true, false, ◌&&◌, and-eq-true_iff}
-use mathlib.Core.List.{List, [], ◌∷◌}
-use mathlib.Core.Logic.{◌⊎◌, inl, inr}
-use native.Mathlib.Omega.{arith}
-use native.Mathlib.Numerals.{add-one}
-use native.Mathlib.Decide.{dec_lt, ℕ_discrete}
-use lib.ListN.{length, get_or, set, length-set}
-use lib.Seq.{slice, slice_empty, slice-cons, length-slice, get_or-set_same, get_or-set_other}
+-- The table of names: hashes byte by byte, the chain of a bucket, and a name entered.
+use Rattle.std.proofs.Common.{◌≡◌, ℕ, zero, suc, ◌+◌, ◌≤◌, ◌<◌, ◌⊎◌, inl, inr, Bool, true, false, List, [], ◌∷◌, ◌++◌, Option, Some, None, length, get_or, set, take, map, refl, ap, ap₂, sym, ◌∙◌, subst, arith, add-one, length-set, get_or-set_same, get_or-set_other}
 use lib.Dec.{eqb}
+use native.Mathlib.Decide.{dec_lt, ℕ_discrete}
+use mathlib.Core.Bool.{and-eq-true_iff}
 use borrow.Author.Tests.{eq-eqb, ne_eqb, eqb-true}
+use Rattle.std.specs.List.{slice_range}
 use Rattle.text_rules.specs.TextGrammar.{same_bytes}
-use Rattle.text.specs.Names.{hash_of, last_with, name_at, in_bucket, is_name, Entered}
+use Rattle.text.specs.declared.names.Entry.{Entry}
+use Rattle.text.specs.declared.names.Slot.{Slot}
+use Rattle.text.specs.Hash.{hash_of, last_with, found_at, in_bucket, is_name}
+use Rattle.text.specs.Names.{Table, no_entry, entry_at, name_at, entered, the_table, no_slot, slot_name, Chained}
 
-pub hash-next : (text : List ℕ) (h i to : ℕ) → i < to → to ≤ length text → hash_of h (slice i to text) ≡ hash_of ((31 * h + get_or text i 0) % 1021) (slice (i + 1) to text)
-hash-next text h i to l m = ap (hash_of h) (slice-cons i to text 0 l m) ∙ ap (λ k. hash_of ((31 * h + get_or text i 0) % 1021) (slice k to text)) (sym (add-one i))
+-- A number that was found, or none.
+abbrev pub one_more : Option ℕ → ℕ
+one_more None = 0
+one_more (Some k) = suc k
 
-pub hash-end : (text : List ℕ) (h i to : ℕ) → i ≡ to → hash_of h (slice i to text) ≡ h
-hash-end text h i to e = ap (hash_of h) (ap (λ k. slice k to text) e ∙ slice_empty to text)
+pub one_more-found : (m : ℕ) → one_more (found_at m) ≡ m
+one_more-found zero = refl
+one_more-found (suc m) = refl
 
--- Comparisons.
-pub same_start : (text : List ℕ) (a b n : ℕ) → same_bytes (slice a (a + n) text) (slice b (b + n) text) ≡ same_bytes (slice (a + 0) (a + n) text) (slice (b + 0) (b + n) text)
-same_start text a b n = let p : a ≡ a + 0 = omega arith in let q : b ≡ b + 0 = omega arith in ap₂ (λ i j. same_bytes (slice i (a + n) text) (slice j (b + n) text)) p q
+pub found_none : (m : ℕ) → None ≡ found_at m → m ≡ 0
+found_none m e = sym (one_more-found m) ∙ ap one_more (sym e)
 
-module _ (text : List ℕ) (a b n i : ℕ) (l : a + n ≤ length text) (m : b + n ≤ length text) where
-  abbrev from : ℕ → Bool
-  from i = same_bytes (slice (a + i) (a + n) text) (slice (b + i) (b + n) text)
-
-  first_byte : (c : ℕ) → c + n ≤ length text → i < n → slice (c + i) (c + n) text ≡ get_or text (c + i) 0 ∷ slice (c + (i + 1)) (c + n) text
-  first_byte c p h =
-      let e : suc (c + i) ≡ c + (i + 1) = omega arith in
-      slice-cons (c + i) (c + n) text 0 (omega arith) p ∙ ap (λ k. get_or text (c + i) 0 ∷ slice k (c + n) text) e
-
-  both_bytes : i < n → from i ≡ (eqb (get_or text (a + i) 0) (get_or text (b + i) 0) && from (i + 1))
-  unfolding same_bytes
-  both_bytes h = ap₂ same_bytes (first_byte a l h) (first_byte b m h)
-
-  pub same_next : i < n → get_or text (a + i) 0 ≡ get_or text (b + i) 0 → from i ≡ from (i + 1)
-  same_next h e = both_bytes h ∙ ap (◌&& from (i + 1)) (eq-eqb (get_or text (a + i) 0) (get_or text (b + i) 0) e)
-
-  pub same_not : i < n → (get_or text (a + i) 0 ≡ get_or text (b + i) 0 → ⊥) → from i ≡ false
-  same_not h e = both_bytes h ∙ ap (◌&& from (i + 1)) (ne_eqb (get_or text (a + i) 0) (get_or text (b + i) 0) e)
-
-  pub same_end : i ≡ n → from i ≡ true
-  unfolding same_bytes
-  same_end e = ap from e ∙ ap₂ same_bytes (slice_empty (a + n) text) (slice_empty (b + n) text)
+pub found_some : (m k : ℕ) → Some k ≡ found_at m → m ≡ suc k
+found_some m k e = sym (one_more-found m) ∙ ap one_more (sym e)
 
 pub bytes_same : (xs ys : List ℕ) → same_bytes xs ys ≡ true → xs ≡ ys
 unfolding same_bytes
@@ -67,11 +46,6 @@ bytes-equal xs ys e = ap (same_bytes xs) (sym e) ∙ go xs
 false-unless : (b : Bool) → (b ≡ true → ⊥) → b ≡ false
 false-unless true f = absurd (f refl)
 false-unless false f = refl
-
-pub other_length : (text : List ℕ) (a b from to : ℕ) → b ≤ length text → to ≤ length text → (b - a ≡ to - from → ⊥) → same_bytes (slice a b text) (slice from to text) ≡ false
-other_length text a b from to h l f =
-    false-unless (same_bytes (slice a b text) (slice from to text))
-    (λ e. f (sym (length-slice a b text h) ∙ ap length (bytes_same (slice a b text) (slice from to text) e) ∙ length-slice from to text l))
 
 -- A test that passes only where another does: it is enough to look where that one last passes.
 pub look-there : (p q : List ℕ → Bool) (name : ℕ → List ℕ) → ((m : List ℕ) → p m ≡ true → q m ≡ true) → (n : ℕ) → last_with p name n ≡ last_with p name (last_with q name n)
@@ -111,131 +85,202 @@ last-ext q name name' (suc n) h = go (q (name n)) refl (ap q (h n (omega arith))
 
 -- Looking for a name along the chain of its bucket, from j on.
 module _ (name : ℕ → List ℕ) (wanted : List ℕ) (n : ℕ) where
-  pub record Chain (h j : ℕ) : Type 0 where
-    pub hashed : h ≡ hash_of 0 wanted
+  abbrev bucket : List ℕ → Bool
+  bucket = in_bucket (hash_of 0 wanted)
+
+  pub record Chain (j : ℕ) : Type 0 where
     pub bound : ℕ
     pub few : bound ≤ n
-    pub here : j ≡ last_with (in_bucket h) name bound
+    pub here : j ≡ last_with bucket name bound
     pub same : last_with (is_name wanted) name n ≡ last_with (is_name wanted) name j
 
-  hash-of : (h : ℕ) → h ≡ hash_of 0 wanted → (m : List ℕ) → is_name wanted m ≡ true → in_bucket h m ≡ true
-  hash-of h e m s = eq-eqb (hash_of 0 m) h (ap (hash_of 0) (bytes_same m wanted s) ∙ sym e)
+  in_its_bucket : (m : List ℕ) → is_name wanted m ≡ true → bucket m ≡ true
+  in_its_bucket m s = eq-eqb (hash_of 0 m) (hash_of 0 wanted) (ap (hash_of 0) (bytes_same m wanted s))
 
-  pub chain-start : (h j : ℕ) → h ≡ hash_of 0 wanted → j ≡ last_with (in_bucket h) name n → Chain h j
-  chain-start h j e s =
+  pub chain-start : (o : Option ℕ) → o ≡ found_at (last_with bucket name n) → Chain (one_more o)
+  chain-start o e =
+      let s : one_more o ≡ last_with bucket name n = ap one_more e ∙ one_more-found (last_with bucket name n) in
       record {
-        hashed = e;
         bound = n;
         few = omega arith;
         here = s;
-        same = look-there (is_name wanted) (in_bucket h) name (hash-of h e) n ∙ ap (last_with (is_name wanted) name) (sym s);
+        same = look-there (is_name wanted) bucket name in_its_bucket n ∙ ap (last_with (is_name wanted) name) (sym s);
       }
 
-  pub chain-few : (h j : ℕ) → Chain h j → j ≤ n
-  chain-few h j c = omega (arith, c.few, c.here, last-below (in_bucket h) name c.bound)
+  module _ (k : ℕ) (c : Chain (suc k)) where
+    pub chain-few : k < n
+    chain-few = omega (arith, c.few, c.here, last-below bucket name c.bound)
 
-  module _ (h j : ℕ) (c : Chain h j) (k : ℕ) (e : j ≡ suc k) where
-    in-chain : in_bucket h (name k) ≡ true
-    in-chain = last-passes (in_bucket h) name c.bound k (sym c.here ∙ e)
+    pub chain-found : same_bytes (name k) wanted ≡ true → last_with (is_name wanted) name n ≡ suc k
+    chain-found s = c.same ∙ rw (s, last_with) refl
 
-    pub chain-found : same_bytes (name k) wanted ≡ true → last_with (is_name wanted) name n ≡ j
-    chain-found s = c.same ∙ ap (last_with (is_name wanted) name) e ∙ rw (s, last_with) (sym e)
+    module _ (o : Option ℕ) (f : o ≡ found_at (last_with (in_bucket (hash_of 0 (name k))) name k)) where
+      step : one_more o ≡ last_with (in_bucket (hash_of 0 (name k))) name k
+      step = ap one_more f ∙ one_more-found (last_with (in_bucket (hash_of 0 (name k))) name k)
 
-    pub chain_next : (j' : ℕ) → same_bytes (name k) wanted ≡ false → j' ≡ last_with (in_bucket (hash_of 0 (name k))) name k → Chain h j'
-    chain_next j' s f =
-        let q : hash_of 0 (name k) ≡ h = eqb-true (hash_of 0 (name k)) h in-chain in
-        let g : j' ≡ last_with (in_bucket h) name k = f ∙ ap (λ x. last_with (in_bucket x) name k) q in
-        let step : last_with (is_name wanted) name (suc k) ≡ last_with (is_name wanted) name k = rw (s, last_with) refl in
-        record {
-          hashed = c.hashed;
-          bound = k;
-          few = omega (arith, chain-few h j c);
-          here = g;
-          same =
-              c.same
-              ∙ ap (last_with (is_name wanted) name) e
-              ∙ step
-              ∙ look-there (is_name wanted) (in_bucket h) name (hash-of h c.hashed) k
-              ∙ ap (last_with (is_name wanted) name) (sym g);
-        }
+      pub chain-falls : one_more o < suc k
+      chain-falls = omega (arith, step, last-below (in_bucket (hash_of 0 (name k))) name k)
 
-    pub chain-falls : (j' : ℕ) → j' ≡ last_with (in_bucket (hash_of 0 (name k))) name k → j' < j
-    chain-falls j' f = omega (arith, last-below (in_bucket (hash_of 0 (name k))) name k)
+      pub chain-next : same_bytes (name k) wanted ≡ false → Chain (one_more o)
+      chain-next s =
+          let q : hash_of 0 (name k) ≡ hash_of 0 wanted = eqb-true (hash_of 0 (name k)) (hash_of 0 wanted) (last-passes bucket name c.bound k (sym c.here)) in
+          let g : one_more o ≡ last_with bucket name k = step ∙ ap (λ x. last_with (in_bucket x) name k) q in
+          let passed : last_with (is_name wanted) name (suc k) ≡ last_with (is_name wanted) name k = rw (s, last_with) refl in
+          record {
+            bound = k;
+            few = omega (arith, chain-few);
+            here = g;
+            same = c.same ∙ passed ∙ look-there (is_name wanted) bucket name in_its_bucket k ∙ ap (last_with (is_name wanted) name) (sym g);
+          }
 
-  pub chain-end : (h j : ℕ) → Chain h j → j ≡ 0 → last_with (is_name wanted) name n ≡ 0
-  chain-end h j c e = c.same ∙ ap (last_with (is_name wanted) name) e
+  pub chain-end : Chain 0 → last_with (is_name wanted) name n ≡ 0
+  chain-end c = c.same
 
--- A name entered.
-module _ (text froms tos heads befores : List ℕ) (n : ℕ) (E : Entered text froms tos heads befores n) (from to h : ℕ) (in_from : n < length froms) (in_to : n < length tos) (in_before : n < length befores)
-    (forward : from ≤ to) (inside : to ≤ length text) (hash : h ≡ hash_of 0 (slice from to text)) (small : h < 1021) where
-  abbrev froms' : List ℕ
-  froms' = set froms n from
+-- A name on the chain: number j.
+pub record Here (text : List ℕ) (slots : List Slot) (wanted : List ℕ) (n j : ℕ) (o : Option ℕ) : Type 0 where
+  pub size : one_more o ≡ suc j
+  pub chain : Chain (slot_name text slots) wanted n (suc j)
+  pub few : j < n
+  pub forward : (get_or slots j no_slot).entry.from ≤ (get_or slots j no_slot).entry.to
+  pub inside : (get_or slots j no_slot).entry.to ≤ length text
+  pub before : (get_or slots j no_slot).before ≡ found_at (last_with (in_bucket (hash_of 0 (slot_name text slots j))) (slot_name text slots) j)
 
-  abbrev tos' : List ℕ
-  tos' = set tos n to
+pub here :
+    (text : List ℕ) (slots : List Slot) (heads : List (Option ℕ)) (n : ℕ) → Chained text slots heads n → (wanted : List ℕ) (o : Option ℕ) (k j : ℕ) → o ≡ Some k → j ≡ k
+    → Chain (slot_name text slots) wanted n (one_more o) → Here text slots wanted n j o
+here text slots heads n E wanted o k j e q c =
+    let s : one_more o ≡ suc j = ap one_more e ∙ ap suc (sym q) in
+    let d : Chain (slot_name text slots) wanted n (suc j) = subst (Chain (slot_name text slots) wanted n) s c in
+    let f : j < n = chain-few (slot_name text slots) wanted n j d in
+    record { size = s; chain = d; few = f; forward = E.forward j f; inside = E.inside j f; before = E.before j f }
 
-  old-from : (j : ℕ) → j < n → get_or froms' j 0 ≡ get_or froms j 0
-  old-from j l = get_or-set_other froms n j from 0 (λ e. omega arith)
+-- What callers see of the slots.
+entry-of : (slots : List Slot) (n j : ℕ) → j < n → n ≤ length slots → get_or (map (λ s. s.entry) (take n slots)) j no_entry ≡ (get_or slots j no_slot).entry
+entry-of slots zero j h l = absurd (omega arith)
+entry-of [] (suc n) j h l = absurd (omega arith)
+entry-of (s ∷ slots) (suc n) zero h l = refl
+entry-of (s ∷ slots) (suc n) (suc j) h l = entry-of slots n j (omega arith) (omega arith)
 
-  old-to : (j : ℕ) → j < n → get_or tos' j 0 ≡ get_or tos j 0
-  old-to j l = get_or-set_other tos n j to 0 (λ e. omega arith)
+pub size-of : (slots : List Slot) (n : ℕ) → n ≤ length slots → length (map (λ s. s.entry) (take n slots)) ≡ n
+size-of slots zero l = refl
+size-of [] (suc n) l = absurd (omega arith)
+size-of (s ∷ slots) (suc n) l = ap suc (size-of slots n (omega arith))
 
-  old-name : (j : ℕ) → j < n → name_at text froms tos j ≡ name_at text froms' tos' j
-  old-name j l = ap₂ (λ a b. slice a b text) (sym (old-from j l)) (sym (old-to j l))
+pub same-name : (text : List ℕ) (slots : List Slot) (n j : ℕ) → j < n → n ≤ length slots → slot_name text slots j ≡ name_at (the_table text slots n) j
+same-name text slots n j h l = ap (λ e. slice_range text e.from e.to) (sym (entry-of slots n j h l))
 
-  new-name : name_at text froms' tos' n ≡ slice from to text
-  new-name = ap₂ (λ a b. slice a b text) (get_or-set_same froms n from 0 in_from) (get_or-set_same tos n to 0 in_to)
+pub chained-none : (text : List ℕ) (slots : List Slot) (heads : List (Option ℕ)) → length slots ≡ 4096 → length heads ≡ 1021 → ((h : ℕ) → h < 1021 → get_or heads h None ≡ None) → Chained text slots heads 0
+chained-none text slots heads l m f =
+    record { few = omega arith; room = l; buckets = m; forward = λ j l. absurd (omega arith); inside = λ j l. absurd (omega arith); head = f; before = λ j l. absurd (omega arith) }
 
-  new-head : (g : ℕ) → g < 1021 → get_or (set heads h (n + 1)) g 0 ≡ last_with (in_bucket g) (name_at text froms' tos') (suc n)
+pub seen : (text : List ℕ) (slots : List Slot) (n : ℕ) (wanted : List ℕ) → n ≤ length slots
+    → last_with (is_name wanted) (slot_name text slots) n ≡ last_with (is_name wanted) (name_at (the_table text slots n)) (length (the_table text slots n).entries)
+seen text slots n wanted l =
+    last-ext (is_name wanted) (slot_name text slots) (name_at (the_table text slots n)) n (λ j h. same-name text slots n j h l)
+    ∙ ap (last_with (is_name wanted) (name_at (the_table text slots n))) (sym (size-of slots n l))
+
+-- A slot more.
+pub one-entered : (text : List ℕ) (slots : List Slot) (n : ℕ) (s : Slot) → n < length slots → the_table text (set slots n s) (n + 1) ≡ entered (the_table text slots n) s.entry
+one-entered text slots n s h = ap (λ es. record { text = text; entries = es }) (go slots n h)
+  where
+    go : (slots : List Slot) (n : ℕ) → n < length slots → map (λ s. s.entry) (take (n + 1) (set slots n s)) ≡ map (λ s. s.entry) (take n slots) ++ s.entry ∷ []
+    go [] n h = absurd (omega arith)
+    go (x ∷ xs) zero h = refl
+    go (x ∷ xs) (suc n) h = rw add-one (ap {B = List Entry} (x.entry ∷◌) (ap (λ m. map (λ s. s.entry) (take m (set xs n s))) (sym (add-one n)) ∙ go xs n (omega arith)))
+
+module _ (text : List ℕ) (slots : List Slot) (heads : List (Option ℕ)) (n : ℕ) (E : Chained text slots heads n) (e : Entry) (h : ℕ) (room : n < 4096)
+    (forward : e.from ≤ e.to) (inside : e.to ≤ length text) (hash : h ≡ hash_of 0 (slice_range text e.from e.to)) (small : h < 1021) where
+  abbrev slot : Slot
+  slot = record { entry = e; before = get_or heads h None }
+
+  abbrev slots' : List Slot
+  slots' = set slots n slot
+
+  abbrev heads' : List (Option ℕ)
+  heads' = set heads h (Some n)
+
+  abbrev name : ℕ → List ℕ
+  name = slot_name text slots
+
+  abbrev name' : ℕ → List ℕ
+  name' = slot_name text slots'
+
+  old-slot : (j : ℕ) → j < n → get_or slots' j no_slot ≡ get_or slots j no_slot
+  old-slot j l = get_or-set_other slots n j slot no_slot (λ q. omega arith)
+
+  new-slot : get_or slots' n no_slot ≡ slot
+  new-slot = get_or-set_same slots n slot no_slot (omega (arith, E.room))
+
+  old-name : (j : ℕ) → j < n → name j ≡ name' j
+  old-name j l = ap (λ s. slice_range text s.entry.from s.entry.to) (sym (old-slot j l))
+
+  new-name : name' n ≡ slice_range text e.from e.to
+  new-name = ap (λ s. slice_range text s.entry.from s.entry.to) new-slot
+
+  new-head : (g : ℕ) → g < 1021 → get_or heads' g None ≡ found_at (last_with (in_bucket g) name' (suc n))
   new-head g l = go (ℕ_discrete g h)
     where
-      go : Dec (g ≡ h) → get_or (set heads h (n + 1)) g 0 ≡ last_with (in_bucket g) (name_at text froms' tos') (suc n)
-      go (yes e) =
-          let t : in_bucket g (name_at text froms' tos' n) ≡ true = eq-eqb (hash_of 0 (name_at text froms' tos' n)) g (ap (hash_of 0) new-name ∙ sym hash ∙ sym e) in
-          ap (λ x. get_or (set heads h (n + 1)) x 0) e ∙ get_or-set_same heads h (n + 1) 0 (omega (arith, E.in_heads)) ∙ rw (t, last_with) (add-one n)
+      go : Dec (g ≡ h) → get_or heads' g None ≡ found_at (last_with (in_bucket g) name' (suc n))
+      go (yes q) =
+          let t : in_bucket g (name' n) ≡ true = eq-eqb (hash_of 0 (name' n)) g (ap (hash_of 0) new-name ∙ sym hash ∙ sym q) in
+          ap (λ x. get_or heads' x None) q ∙ get_or-set_same heads h (Some n) None (omega (arith, E.buckets)) ∙ rw (t, last_with) refl
       go (no f) =
-          let t : in_bucket g (name_at text froms' tos' n) ≡ false =
-          ne_eqb (hash_of 0 (name_at text froms' tos' n)) g (λ e. f (sym e ∙ ap (hash_of 0) new-name ∙ sym hash)) in
-          get_or-set_other heads h g (n + 1) 0 f
+          let t : in_bucket g (name' n) ≡ false =
+          ne_eqb (hash_of 0 (name' n)) g (λ q. f (sym q ∙ ap (hash_of 0) new-name ∙ sym hash)) in
+          get_or-set_other heads h g (Some n) None f
           ∙ E.head g l
-          ∙ last-ext (in_bucket g) (name_at text froms tos) (name_at text froms' tos') n old-name
+          ∙ ap found_at (last-ext (in_bucket g) name name' n old-name)
           ∙ rw (t, last_with) refl
 
   at_last : (j : ℕ) → j < n + 1 → Dec (j < n) → (j < n) ⊎ (j ≡ n)
   at_last j l (yes p) = inl p
   at_last j l (no p) = inr (omega arith)
 
-  new-before :
-      (j : ℕ) → (j < n) ⊎ (j ≡ n) → get_or (set befores n (get_or heads h 0)) j 0 ≡ last_with (in_bucket (hash_of 0 (name_at text froms' tos' j))) (name_at text froms' tos') j
+  new-before : (j : ℕ) → (j < n) ⊎ (j ≡ n) → (get_or slots' j no_slot).before ≡ found_at (last_with (in_bucket (hash_of 0 (name' j))) name' j)
   new-before j (inl l) =
-      get_or-set_other befores n j (get_or heads h 0) 0 (λ e. omega arith)
+      ap (λ s. s.before) (old-slot j l)
       ∙ E.before j l
-      ∙ ap (λ m. last_with (in_bucket (hash_of 0 m)) (name_at text froms tos) j) (old-name j l)
-      ∙ last-ext (in_bucket (hash_of 0 (name_at text froms' tos' j))) (name_at text froms tos) (name_at text froms' tos') j (λ i k. old-name i (omega arith))
-  new-before j (inr e) =
-      subst (λ j. get_or (set befores n (get_or heads h 0)) j 0 ≡ last_with (in_bucket (hash_of 0 (name_at text froms' tos' j))) (name_at text froms' tos') j) (sym e)
-      (get_or-set_same befores n (get_or heads h 0) 0 in_before
+      ∙ ap (λ m. found_at (last_with (in_bucket (hash_of 0 m)) name j)) (old-name j l)
+      ∙ ap found_at (last-ext (in_bucket (hash_of 0 (name' j))) name name' j (λ i k. old-name i (omega arith)))
+  new-before j (inr q) =
+      subst (λ j. (get_or slots' j no_slot).before ≡ found_at (last_with (in_bucket (hash_of 0 (name' j))) name' j)) (sym q)
+      (ap (λ s. s.before) new-slot
       ∙ E.head h small
-      ∙ ap (λ g. last_with (in_bucket g) (name_at text froms tos) n) (hash ∙ ap (hash_of 0) (sym new-name))
-      ∙ last-ext (in_bucket (hash_of 0 (name_at text froms' tos' n))) (name_at text froms tos) (name_at text froms' tos') n old-name)
+      ∙ ap (λ g. found_at (last_with (in_bucket g) name n)) (hash ∙ ap (hash_of 0) (sym new-name))
+      ∙ ap found_at (last-ext (in_bucket (hash_of 0 (name' n))) name name' n old-name))
 
-  new-forward : (j : ℕ) → (j < n) ⊎ (j ≡ n) → get_or froms' j 0 ≤ get_or tos' j 0
-  new-forward j (inl l) = omega (arith, old-from j l, old-to j l, E.forward j l)
-  new-forward j (inr e) = rw e (omega (arith, get_or-set_same froms n from 0 in_from, get_or-set_same tos n to 0 in_to, forward))
+  new-forward : (j : ℕ) → (j < n) ⊎ (j ≡ n) → (get_or slots' j no_slot).entry.from ≤ (get_or slots' j no_slot).entry.to
+  new-forward j (inl l) = rw (old-slot j l) (E.forward j l)
+  new-forward j (inr q) = rw (q, new-slot) forward
 
-  new-inside : (j : ℕ) → (j < n) ⊎ (j ≡ n) → get_or tos' j 0 ≤ length text
-  new-inside j (inl l) = omega (arith, old-to j l, E.inside j l)
-  new-inside j (inr e) = rw e (omega (arith, get_or-set_same tos n to 0 in_to, inside))
+  new-inside : (j : ℕ) → (j < n) ⊎ (j ≡ n) → (get_or slots' j no_slot).entry.to ≤ length text
+  new-inside j (inl l) = rw (old-slot j l) (E.inside j l)
+  new-inside j (inr q) = rw (q, new-slot) inside
 
-  pub one-entered : Entered text froms' tos' (set heads h (n + 1)) (set befores n (get_or heads h 0)) (n + 1)
-  one-entered =
+  pub chained-more : Chained text slots' heads' (n + 1)
+  chained-more =
       record {
-        in_froms = omega (arith, length-set froms n from);
-        in_tos = omega (arith, length-set tos n to);
-        in_befores = omega (arith, length-set befores n (get_or heads h 0));
-        in_heads = omega (arith, length-set heads h (n + 1), E.in_heads);
+        few = omega arith;
+        room = length-set slots n slot ∙ E.room;
+        buckets = length-set heads h (Some n) ∙ E.buckets;
         forward = λ j l. new-forward j (at_last j l (dec_lt j n));
         inside = λ j l. new-inside j (at_last j l (dec_lt j n));
-        head = λ g l. new-head g l ∙ ap (last_with (in_bucket g) (name_at text froms' tos')) (sym (add-one n));
+        head = λ g l. new-head g l ∙ ap (λ m. found_at (last_with (in_bucket g) name' m)) (sym (add-one n));
         before = λ j l. new-before j (at_last j l (dec_lt j n));
       }
+
+-- The entries of a table with one more.
+pub entered-old : (t : Table) (e : Entry) (j : ℕ) → j < length t.entries → entry_at (entered t e) j ≡ entry_at t j
+entered-old t e j l = go t.entries j l
+  where
+    go : (es : List Entry) (j : ℕ) → j < length es → get_or (es ++ e ∷ []) j no_entry ≡ get_or es j no_entry
+    go [] j l = absurd (omega arith)
+    go (x ∷ es) zero l = refl
+    go (x ∷ es) (suc j) l = go es j (omega arith)
+
+pub entered-new : (t : Table) (e : Entry) → entry_at (entered t e) (length t.entries) ≡ e
+entered-new t e = go t.entries
+  where
+    go : (es : List Entry) → get_or (es ++ e ∷ []) (length es) no_entry ≡ e
+    go [] = refl
+    go (x ∷ es) = go es

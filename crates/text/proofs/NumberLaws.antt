@@ -1,16 +1,11 @@
 -- What the table of names finds is the number of the rules, as long as no name is declared twice.
-use Prim.Native.Nat.{ℕ, zero, suc, ◌+◌, ◌≤◌, ◌<◌}
-use mathlib.Core.Path.{◌≡◌, refl, ap, sym, ◌∙◌}
-use mathlib.Core.Bool.{Bool, true, false}
-use mathlib.Core.Option.{Option, none, some}
-use mathlib.Core.List.{List, [], ◌∷◌}
-use native.Mathlib.Omega.{arith}
+use Rattle.std.proofs.Common.{ℕ, zero, suc, ◌+◌, ◌≤◌, ◌<◌, ◌≡◌, Bool, true, false, List, [], ◌∷◌, length, refl, ap, sym, ◌∙◌, arith}
+use Rattle.std.proofs.Math.Option.{Option, none, some}
 use native.Mathlib.Decide.{dec_lt, ℕ_discrete}
-use lib.ListN.{length}
 use borrow.Author.Tests.{eq-eqb, ne_eqb}
 use Rattle.text_rules.specs.TextGrammar.{same_bytes}
 use Rattle.text_rules.specs.TextWords.{Declaration, number_of, is_number}
-use Rattle.text.specs.Names.{last_with, is_name}
+use Rattle.text.specs.Hash.{last_with, is_name}
 use Rattle.text.proofs.NameLaws.{bytes_same, bytes-equal, last-below, last-passes}
 
 -- The declarations' names, from number `at` on.

@@ -1,18 +1,16 @@
 -- Reading a text token by token.
-use Prim.Native.Nat.{ℕ, ◌-◌, ◌≤◌, ◌<◌}
-use mathlib.Core.Path.{◌≡◌, refl, ap, ◌∙◌}
-use mathlib.Core.Option.{none, some}
-use mathlib.Core.List.{List, ◌∷◌}
-use native.Mathlib.Omega.{arith}
-use lib.ListN.{length, take, drop}
-use borrow.Author.Tests.{eq-eqb, ne_eqb}
+use Rattle.std.proofs.Common.{ℕ, ◌-◌, ◌≤◌, ◌<◌, ◌≡◌, List, ◌∷◌, length, take, drop, refl, ap, ◌∙◌, arith}
+use Rattle.std.proofs.Math.Option.{none, some}
 use Rattle.text_rules.specs.TextTokens.{token, tokens}
 use Rattle.text_rules.specs.TextTokens as rules
 use Rattle.text_rules.specs.TextGrammar.{State, item, follows, next, unread}
 use Rattle.text_rules.specs.Text.{place_of}
+use Rattle.text.specs.declared.tokens.Kind.TheVariants.{Ending, Opening}
 use Rattle.text.specs.declared.tokens.Token.{Token}
+use Rattle.text.specs.Kinds.{kind_of}
 use Rattle.text.specs.Scan.{tokens_from, Next}
 use Rattle.text.specs.Steps.{depth_of}
+use Rattle.text.proofs.TokenLaws.{not-ending}
 use Rattle.text.proofs.GrammarLaws.{one_deeper, unread-goes, unread-stops, unread-ends}
 
 -- The text is read as far as `at`, where it stands at s.
@@ -24,34 +22,35 @@ pub record ReadTo (text : List ℕ) (s : State) (at : ℕ) : Type 0 where
 pub read_none : (text : List ℕ) → ReadTo text item 0
 read_none text = record { inside = omega arith; shallow = omega arith; same = refl }
 
-abbrev pub token_of : List ℕ → Token → rules.Kind → rules.Token
-token_of text r k = token k (take (r.to - r.from) (drop r.from text)) (length text - r.from)
+-- The token that the code's one stands for.
+abbrev pub token_of : List ℕ → Token → rules.Token
+token_of text r = token (kind_of r.kind) (take (r.to - r.from) (drop r.from text)) (length text - r.from)
 
 module _ (text : List ℕ) (s : State) (at : ℕ) (r : Token) (n : Next text at r) (d : ReadTo text s at) where
   abbrev this : rules.Token
-  this = token_of text r n.sort
+  this = token_of text r
 
   here : unread item (tokens 0 text) ≡ unread s (this ∷ tokens_from r.kind text r.to)
   here = d.same ∙ ap (unread s) n.scanned
 
-  pub shallow-enough : length text < 18446744073709551616 → r.kind ≡ 8 → depth_of s < 18446744073709551615
-  shallow-enough l e = omega (arith, d.shallow, n.later, n.inside, n.progress (λ q. omega arith))
+  pub shallow-enough : length text < 18446744073709551616 → r.kind ≡ Opening → depth_of s < 18446744073709551615
+  shallow-enough l e = omega (arith, d.shallow, n.later, n.inside, n.progress (λ q. cc))
 
-  pub read-on : (u : State) → next (follows s) this ≡ some u → (r.kind ≡ 1 → ⊥) → ReadTo text u r.to
+  pub read-on : (u : State) → next (follows s) this ≡ some u → (r.kind ≡ Ending → ⊥) → ReadTo text u r.to
   read-on u e f =
       record {
         inside = n.inside;
         shallow = omega (arith, one_deeper s u this e, d.shallow, n.later, n.progress f);
-        same = here ∙ unread-goes s u this (tokens_from r.kind text r.to) e ∙ rw (ne_eqb r.kind 1 f, tokens_from) refl;
+        same = here ∙ unread-goes s u this (tokens_from r.kind text r.to) e ∙ ap (unread u) (not-ending r.kind text r.to f);
       }
 
-  pub read-forward : (r.kind ≡ 1 → ⊥) → length text - r.to < length text - at
+  pub read-forward : (r.kind ≡ Ending → ⊥) → length text - r.to < length text - at
   read-forward f = omega (arith, n.later, n.progress f, n.inside)
 
-  pub read_all : (u : State) → next (follows s) this ≡ some u → r.kind ≡ 1 → place_of text (unread item (tokens 0 text)) ≡ none
+  pub read_all : (u : State) → next (follows s) this ≡ some u → r.kind ≡ Ending → place_of text (unread item (tokens 0 text)) ≡ none
   unfolding place_of
   read_all u e f =
-      let last : unread u (tokens_from r.kind text r.to) ≡ none = rw (eq-eqb r.kind 1 f, tokens_from) (unread-ends u) in
+      let last : unread u (tokens_from r.kind text r.to) ≡ none = ap (λ k. unread u (tokens_from k text r.to)) f ∙ unread-ends u in
       ap (place_of text) (here ∙ unread-goes s u this (tokens_from r.kind text r.to) e ∙ last)
 
   pub read-stops : next (follows s) this ≡ none → place_of text (unread item (tokens 0 text)) ≡ some r.from

@@ -1,91 +1,98 @@
--- Tokens, and the bytes of one token, from a place of a text on.
-use Prim.Native.Nat.{ℕ, ◌+◌, ◌*◌, ◌-◌, ◌≤◌, ◌<◌}
-use mathlib.Core.Path.{◌≡◌, refl, ap, sym, ◌∙◌}
-use mathlib.Core.Bool.{Bool, true, false}
-use mathlib.Core.List.{List, [], ◌∷◌}
-use native.Mathlib.Omega.{arith}
-use native.Mathlib.Decide.{dec_lt}
-use native.Mathlib.Numerals.{add-one}
-use lib.ListN.{length, get_or, drop, drop_of_length-le}
-use lib.Seq.{drop-cons}
-use Rattle.text_rules.specs.TextTokens.{space, is_class, digit_byte, longest, value, tokens}
-use Rattle.text.specs.Scan.{DigitsAt}
+-- The bytes in front that pass a test: spacing, the letters and digits of a name, the digits of a number.
+use Rattle.std.proofs.Common.{◌≡◌, ℕ, zero, suc, ◌+◌, ◌*◌, ◌-◌, ◌≤◌, Bool, true, false, List, [], ◌∷◌, length, take, drop, get_or, min, refl, ap, sym, ◌∙◌, arith, length-drop, length-take}
+use Rattle.std.specs.List.{prefix_len, fold}
+use Rattle.std.proofs.Math.Seq.{drop-drop}
+use Rattle.std.proofs.lemmas.List.{take_all, get_or-drop}
+use Rattle.std.proofs.lemmas.List.Sums.{prefix_len-le-length, prefix_len_stops}
+use Rattle.text_rules.specs.TextTokens.{space, is_class, digit_byte, word_byte, longest, value, tokens}
+use Rattle.text.specs.Scan.{Skipped, DigitsAt}
 
-from_place : (text : List ℕ) (i : ℕ) → i < length text → drop i text ≡ get_or text i 0 ∷ drop (i + 1) text
-from_place text i h = rw (add-one i) (drop-cons text i 0 h)
+module _ (such : ℕ → Bool) where
+  one-more : (n : ℕ) → 1 + n ≡ suc n
+  one-more n = omega arith
 
--- The longest front of such bytes, byte by byte.
-module _ (such : ℕ → Bool) (text : List ℕ) (i : ℕ) where
-  pub longest-more : i < length text → such (get_or text i 0) ≡ true → longest such (drop i text) ≡ get_or text i 0 ∷ longest such (drop (i + 1) text)
+  pub longest-take : (xs : List ℕ) → longest such xs ≡ take (prefix_len such xs) xs
   unfolding longest
-  longest-more h e = ap (longest such) (from_place text i h) ∙ rw (e, longest)
+  longest-take [] = refl
+  longest-take (x ∷ xs) = go (such x) refl (longest-take xs)
+    where
+      go : (b : Bool) → such x ≡ b → longest such xs ≡ take (prefix_len such xs) xs → longest such (x ∷ xs) ≡ take (prefix_len such (x ∷ xs)) (x ∷ xs)
+      go true e r = rw (e, longest, prefix_len, one-more) (ap {B = List ℕ} (x ∷◌) r)
+      go false e r = rw (e, longest, prefix_len) refl
 
-  pub longest-stop : i < length text → such (get_or text i 0) ≡ false → longest such (drop i text) ≡ []
+  pub length-longest : (xs : List ℕ) → length (longest such xs) ≡ prefix_len such xs
   unfolding longest
-  longest-stop h e = ap (longest such) (from_place text i h) ∙ rw (e, longest)
+  length-longest [] = refl
+  length-longest (x ∷ xs) = go (such x) refl (length-longest xs)
+    where
+      go : (b : Bool) → such x ≡ b → length (longest such xs) ≡ prefix_len such xs → length (longest such (x ∷ xs)) ≡ prefix_len such (x ∷ xs)
+      go true e r = rw (e, longest, prefix_len) (omega arith)
+      go false e r = rw (e, longest, prefix_len) refl
 
-  pub longest-past : length text ≤ i → longest such (drop i text) ≡ []
+  pub longest-some : (n : ℕ) (xs : List ℕ) → longest such (take n xs) ≡ take n (longest such xs)
   unfolding longest
-  longest-past h = ap (longest such) (drop_of_length-le text h)
+  longest-some zero xs = refl
+  longest-some (suc n) [] = refl
+  longest-some (suc n) (x ∷ xs) = go (such x) refl (longest-some n xs)
+    where
+      go : (b : Bool) → such x ≡ b → longest such (take n xs) ≡ take n (longest such xs) → longest such (x ∷ take n xs) ≡ take (suc n) (longest such (x ∷ xs))
+      go true e r = rw (e, longest) (ap {B = List ℕ} (x ∷◌) r)
+      go false e r = rw (e, longest) refl
 
-pub skip-space : (text : List ℕ) (i : ℕ) → i < length text → is_class space (get_or text i 0) ≡ true → tokens 0 (drop i text) ≡ tokens 0 (drop (i + 1) text)
+pub skip-spaces : (xs : List ℕ) → tokens 0 xs ≡ tokens 0 (drop (prefix_len (is_class space) xs) xs)
 unfolding tokens
-skip-space text i h e = ap (tokens 0) (from_place text i h) ∙ rw (e, tokens)
-
--- Digits from `from` on, as far as i, with their value as it is counted.
-pub record DigitsTo (text : List ℕ) (from i v : ℕ) : Type 0 where
-  pub later : from ≤ i
-  pub inside : i ≤ length text
-  pub bounded : v ≤ 10239
-  pub size : length (longest digit_byte (drop from text)) ≡ i - from + length (longest digit_byte (drop i text))
-  pub small : v ≤ 1023 → value 0 (longest digit_byte (drop from text)) ≡ value v (longest digit_byte (drop i text))
-  pub large : 1024 ≤ v → 1024 ≤ value 0 (longest digit_byte (drop from text))
-
-pub digits-start : (text : List ℕ) (from : ℕ) → from ≤ length text → DigitsTo text from from 0
-digits-start text from h = record { later = omega arith; inside = h; bounded = omega arith; size = omega arith; small = λ _. refl; large = λ l. absurd (omega arith) }
-
-value_grows : (n : ℕ) (ds : List ℕ) → n ≤ value n ds
-unfolding value
-value_grows n [] = omega arith
-value_grows n (d ∷ ds) = omega (arith, value_grows (10 * n + (d - 48)) ds)
-
-pub digits_step :
-    (text : List ℕ) (from i v w : ℕ) → i < length text → digit_byte (get_or text i 0) ≡ true
-    → (w ≤ 10239) × (v ≤ 1023 → w ≡ 10 * v + (get_or text i 0 - 48)) × (1024 ≤ v → w ≡ v) → DigitsTo text from i v → DigitsTo text from (i + 1) w
-unfolding value
-digits_step text from i v w h e n d =
-    record {
-      later = omega (arith, d.later);
-      inside = omega arith;
-      bounded = n.0;
-      size = omega (arith, d.size, d.later, ap length more);
-      small = λ l. go l (dec_lt v 1024);
-      large = λ l. up l (dec_lt v 1024);
-    }
+skip-spaces [] = refl
+skip-spaces (x ∷ xs) = go (is_class space x) refl (skip-spaces xs)
   where
-    more : longest digit_byte (drop i text) ≡ get_or text i 0 ∷ longest digit_byte (drop (i + 1) text)
-    more = longest-more digit_byte text i h e
+    go :
+        (b : Bool) → is_class space x ≡ b → tokens 0 xs ≡ tokens 0 (drop (prefix_len (is_class space) xs) xs)
+        → tokens 0 (x ∷ xs) ≡ tokens 0 (drop (prefix_len (is_class space) (x ∷ xs)) (x ∷ xs))
+    go true e r = rw (e, tokens, prefix_len, one-more (is_class space)) r
+    go false e r = let none : prefix_len (is_class space) (x ∷ xs) ≡ 0 = rw (e, prefix_len) refl in ap (λ n. tokens 0 (drop n (x ∷ xs))) (sym none)
 
-    next : v ≤ 1023 → value 0 (longest digit_byte (drop from text)) ≡ value w (longest digit_byte (drop (i + 1) text))
-    next l = d.small l ∙ ap (value v) more ∙ ap (λ k. value k (longest digit_byte (drop (i + 1) text))) (sym (n.1 l))
-
-    go : w ≤ 1023 → Dec (v < 1024) → value 0 (longest digit_byte (drop from text)) ≡ value w (longest digit_byte (drop (i + 1) text))
-    go l (yes k) = next (omega arith)
-    go l (no k) = absurd (omega (arith, n.2 (omega arith)))
-
-    up : 1024 ≤ w → Dec (v < 1024) → 1024 ≤ value 0 (longest digit_byte (drop from text))
-    up l (yes k) = omega (arith, next (omega arith), value_grows w (longest digit_byte (drop (i + 1) text)))
-    up l (no k) = d.large (omega arith)
-
-pub digits-end :
-    (text : List ℕ) (from i v : ℕ) → DigitsTo text from i v → longest digit_byte (drop i text) ≡ []
-    → DigitsAt text from (longest digit_byte (drop from text)) (record { to = i; value = v })
+-- The value of digits as it is counted, up to 65,535.
+pub decimal-value : (n : ℕ) (ds : List ℕ) → fold (λ n b. min 65535 (min 65535 (n * 10) + (b - 48))) (min 65535 n) ds ≡ min 65535 (value n ds)
 unfolding value
-digits-end text from i v d e =
+decimal-value n [] = refl
+decimal-value n (d ∷ ds) =
+    let e : min 65535 (min 65535 (min 65535 n * 10) + (d - 48)) ≡ min 65535 (10 * n + (d - 48)) = omega arith in
+    ap (λ m. fold (λ n b. min 65535 (min 65535 (n * 10) + (b - 48))) m ds) e ∙ decimal-value (10 * n + (d - 48)) ds
+
+-- A slice up to the text's end.
+pub up-to-end : (n : ℕ) (text : List ℕ) → take (length text - n) (drop n text) ≡ drop n text
+up-to-end n text = take_all (length text - n) (drop n text) (omega (arith, length-drop n text))
+
+pub front-fits : (such : ℕ → Bool) (text : List ℕ) (at n : ℕ) → at ≤ length text → n ≡ prefix_len such (take (length text - at) (drop at text)) → at + n ≤ length text
+front-fits such text at n h e = omega (arith, ap (prefix_len such) (up-to-end at text), prefix_len-le-length such (drop at text), length-drop at text)
+
+pub skipped : (text : List ℕ) (at n : ℕ) → at ≤ length text → n ≡ prefix_len (is_class space) (take (length text - at) (drop at text)) → Skipped text at (at + n)
+skipped text at n h e =
+    let k : n ≡ prefix_len (is_class space) (drop at text) = e ∙ ap (prefix_len (is_class space)) (up-to-end at text) in
     record {
-      later = d.later;
-      inside = d.inside;
-      size = omega (arith, d.size, ap length e);
-      small = λ l. d.small l ∙ ap (value v) e;
-      large = d.large;
+      later = omega arith;
+      inside = front-fits (is_class space) text at n h e;
+      same = skip-spaces (drop at text) ∙ ap (λ m. tokens 0 (drop m (drop at text))) (sym k) ∙ ap (tokens 0) (drop-drop n at text);
+      stops = λ l.
+          let s = prefix_len_stops (is_class space) (drop at text) 0 (omega (arith, length-drop at text)) in
+          ap (is_class space) (sym (get_or-drop at text n 0) ∙ ap (λ m. get_or (drop at text) m 0) k) ∙ s;
+    }
+
+pub named : (text : List ℕ) (from n : ℕ) → from ≤ length text → n ≡ prefix_len word_byte (take 15 (take (length text - from) (drop from text)))
+    → (from ≤ from + n) × (from + n ≤ length text) × (from + n - from ≡ length (take 15 (longest word_byte (drop from text))))
+named text from n h e =
+    let k : n ≡ prefix_len word_byte (take 15 (drop from text)) = e ∙ ap (λ xs. prefix_len word_byte (take 15 xs)) (up-to-end from text) in
+    let f : n ≤ length text - from = omega (arith, prefix_len-le-length word_byte (take 15 (drop from text)), length-take 15 (drop from text), length-drop from text) in
+    let s : length (take 15 (longest word_byte (drop from text))) ≡ n = ap length (sym (longest-some word_byte 15 (drop from text))) ∙ length-longest word_byte (take 15 (drop from text)) ∙ sym k in
+    (omega arith, omega arith, omega (arith, s))
+
+pub digits-found : (text : List ℕ) (from n v : ℕ) → from ≤ length text → n ≡ prefix_len digit_byte (take (length text - from) (drop from text))
+    → v ≡ min 65535 (value 0 (take (from + n - from) (drop from text))) → DigitsAt text from (longest digit_byte (drop from text)) (record { to = from + n; value = v })
+digits-found text from n v h e f =
+    let k : n ≡ prefix_len digit_byte (drop from text) = e ∙ ap (prefix_len digit_byte) (up-to-end from text) in
+    let m : from + n - from ≡ n = omega arith in
+    record {
+      later = omega arith;
+      inside = front-fits digit_byte text from n h e;
+      size = m ∙ k ∙ sym (length-longest digit_byte (drop from text));
+      number = f ∙ ap (λ xs. min 65535 (value 0 xs)) (ap (λ i. take i (drop from text)) (m ∙ k) ∙ sym (longest-take digit_byte (drop from text)));
     }

@@ -1,30 +1,41 @@
 -- The token that begins at a place, by the class of its first byte, and the next token from a place on.
-use Prim.Native.Nat.{ℕ, zero, suc, ◌+◌, ◌*◌, ◌-◌, ◌≤◌, ◌<◌}
-use mathlib.Core.Path.{◌≡◌, refl, ap, ap₂, sym, ◌∙◌}
-use mathlib.Core.Bool.{Bool, true, false}
-use mathlib.Core.List.{List, [], ◌∷◌, ◌++◌, append_assoc}
-use native.Mathlib.Omega.{arith}
-use native.Mathlib.Decide.{dec_lt}
-use native.Mathlib.Numerals.{add-one}
-use lib.ListN.{length, get_or, take, drop, length-append, length-drop, length-take, take-append-drop, drop_of_length-le}
-use lib.Seq.{drop-cons, drop-drop, take-append_seam}
-use borrow.Author.Tests.{le-leb, lt-leb, eq-eqb, ne_eqb}
-use Rattle.text_rules.specs.TextTokens.{Kind, name, number, variable, implies, ending, invalid, kind_number, zero_digit, space, minus, class_number, class_of, is_class, digit_byte, word_byte, longest, numeral, value, token, at_most, number_token, variable_token, implies_token, token_from, tokens}
+use Rattle.std.proofs.Common.{◌≡◌, ℕ, zero, suc, ◌+◌, ◌-◌, ◌≤◌, ◌<◌, ◌⊎◌, inl, inr, Bool, true, false, List, [], ◌∷◌, ◌++◌, length, take, drop, get_or, refl, ap, ap₂, sym, ◌∙◌, arith, append_assoc, take-append-drop, length-append, length-drop, length-take, drop-cons, add-one}
+use lib.Dec.{eqb}
+use lib.Pointwise.{pointwise}
+use Rattle.std.proofs.Math.ListN.{drop_of_length-le}
+use Rattle.std.proofs.Math.Seq.{drop-drop, take-append_seam}
+use Rattle.std.proofs.lemmas.Bool.Decides.{nat_tests}
+use borrow.Author.Tests.{le-leb, lt-leb, eq-eqb, eqb-true}
+use Rattle.text_rules.specs.TextTokens.{name, number, variable, implies, invalid, kind_number, ranges, class_in, class_of, letter, zero_digit, digit, underscore, colon, minus, space, no_class, mark, is_class, digit_byte, word_byte, longest, numeral, value, token, at_most, number_token, variable_token, implies_token, token_from, tokens}
 use Rattle.text_rules.specs.TextTokens as rules
+use Rattle.std.specs.List.{prefix_len}
+use Rattle.text.specs.declared.tokens.Kind.{Kind}
+use Rattle.text.specs.declared.tokens.Kind.TheVariants.{Invalid, Ending, Name, Number, Variable, Implies}
 use Rattle.text.specs.declared.tokens.Token.{Token}
 use Rattle.text.specs.declared.tokens.Numeral.{Numeral}
+use Rattle.text.specs.declared.classes.Class.{Class}
+use Rattle.text.specs.declared.classes.Class.TheVariants.{Unknown, Space, Minus}
+use Rattle.text.specs.Kinds.{kind_of, rule_class}
 use Rattle.text.specs.Scan.{Skipped, DigitsAt, single, Scanned, tokens_from, Next}
-use Rattle.text.proofs.ClassLaws.{digit-yes, zero-byte, mark-range, is-letter, is-underscore, is-colon, is-mark, number-from, invalid-from}
+use Rattle.text.proofs.ScanLaws.{longest-take, up-to-end}
+
+-- What a byte's class says of it.
+zero-only : (b : ℕ) → (b ≡ 48 → ⊥) → is_class zero_digit b ≡ false
+unfolding is_class class_of class_in ranges
+zero-only b h = grind (arith, nat_tests)
+
+minus-only : (b : ℕ) → (b ≡ 45 → ⊥) → is_class minus b ≡ false
+unfolding is_class class_of class_in ranges
+minus-only b h = grind (arith, nat_tests)
+
+pub mark-kinds : (b : ℕ) (k : rules.Kind) → class_of b ≡ mark k → 6 ≤ kind_number k
+unfolding class_of class_in ranges
+mark-kinds b k e = grind (arith, nat_tests)
 
 -- Fronts of lists.
 longest-front : (such : ℕ → Bool) (xs : List ℕ) → (zs : List ℕ) × (longest such xs ++ zs ≡ xs)
-unfolding longest
-longest-front such [] = ([], refl)
-longest-front such (x ∷ xs) = go (such x) refl (longest-front such xs)
-  where
-    go : (b : Bool) → such x ≡ b → (zs : List ℕ) × (longest such xs ++ zs ≡ xs) → (zs : List ℕ) × (longest such (x ∷ xs) ++ zs ≡ x ∷ xs)
-    go true e r = (r.0, rw (e, longest) (ap {B = List ℕ} (x ∷◌) r.1))
-    go false e r = (x ∷ xs, rw (e, longest) refl)
+longest-front such xs =
+    (drop (prefix_len such xs) xs, ap (◌++ drop (prefix_len such xs) xs) (longest-take such xs) ∙ take-append-drop (prefix_len such xs) xs)
 
 take-front : (n : ℕ) (ys xs : List ℕ) → (zs : List ℕ) × (ys ++ zs ≡ xs) → (zs : List ℕ) × (take n ys ++ zs ≡ xs)
 take-front n ys xs r = (drop n ys ++ r.0, sym (append_assoc (take n ys) (drop n ys) r.0) ∙ ap (◌++ r.0) (take-append-drop n ys) ∙ r.1)
@@ -47,11 +58,11 @@ numeral-some x xs d = go (is_class zero_digit x) refl
     go false e = rw (e, numeral) (rw (d, longest) (omega arith))
 
 -- Numbers within a bound, and over it.
-within : (most : ℕ) (k : Kind) (n : ℕ) → n ≤ most → at_most most k n ≡ k
+within : (most : ℕ) (k : rules.Kind) (n : ℕ) → n ≤ most → at_most most k n ≡ k
 unfolding at_most
 within most k n h = rw (le-leb n most h, at_most)
 
-over : (most : ℕ) (k : Kind) (n : ℕ) → most < n → at_most most k n ≡ invalid
+over : (most : ℕ) (k : rules.Kind) (n : ℕ) → most < n → at_most most k n ≡ invalid
 unfolding at_most
 over most k n h = rw (lt-leb n most h, at_most)
 
@@ -65,49 +76,58 @@ unfolding variable_token
 variable-empty b left [] h = refl
 variable-empty b left (x ∷ xs) h = absurd (omega arith)
 
-implies-yes : (b c left : ℕ) (bs : List ℕ) → is_class minus c ≡ true → implies_token b (c ∷ bs) left ≡ token implies (b ∷ c ∷ []) left
-unfolding implies_token
-implies-yes b c left bs e = rw (e, implies_token)
+-- Whether a byte stands in front.
+abbrev begins : ℕ → List ℕ → Bool
+begins b xs = pointwise eqb (b ∷ []) (take 1 xs)
 
-implies-no : (b c left : ℕ) (bs : List ℕ) → is_class minus c ≡ false → implies_token b (c ∷ bs) left ≡ token invalid (b ∷ []) left
-unfolding implies_token
-implies-no b c left bs e = rw (e, implies_token)
-
--- Digits' value that is over a bound.
-digits-over : (text : List ℕ) (from : ℕ) (ds : List ℕ) (n : Numeral) (most : ℕ) → most ≤ 1023 → DigitsAt text from ds n → most < n.value → most < value 0 ds
-digits-over text from ds n most m d h = go (dec_lt n.value 1024)
+begins-head : (b x : ℕ) (xs : List ℕ) → begins b (x ∷ xs) ≡ eqb b x
+begins-head b x xs = go (eqb b x) refl
   where
-    go : Dec (n.value < 1024) → most < value 0 ds
-    go (yes l) = omega (arith, d.small (omega arith))
-    go (no l) = omega (arith, d.large (omega arith))
+    go : (r : Bool) → eqb b x ≡ r → begins b (x ∷ xs) ≡ eqb b x
+    go true e = rw (e, pointwise) refl
+    go false e = rw (e, pointwise) refl
+
+numeral-zero : (xs : List ℕ) → begins 48 xs ≡ true → (numeral xs ≡ 48 ∷ []) × (1 ≤ length xs)
+unfolding numeral is_class class_of class_in ranges
+numeral-zero [] e = cc
+numeral-zero (x ∷ xs) e =
+    let q : 48 ≡ x = eqb-true 48 x (sym (begins-head 48 x xs) ∙ e) in
+    (ap (λ y. numeral (y ∷ xs)) (sym q), omega arith)
+
+numeral-other : (xs : List ℕ) → begins 48 xs ≡ false → numeral xs ≡ longest digit_byte xs
+unfolding numeral longest
+numeral-other [] e = refl
+numeral-other (x ∷ xs) e =
+    let z = zero-only x (λ q. let w : true ≡ false = sym (eq-eqb 48 x (sym q)) ∙ sym (begins-head 48 x xs) ∙ e in cc) in
+    rw (z, numeral) refl
+
+implies-yes : (b left : ℕ) (xs : List ℕ) → begins 45 xs ≡ true → (implies_token b xs left ≡ token implies (b ∷ 45 ∷ []) left) × (xs ≡ 45 ∷ drop 1 xs)
+unfolding implies_token is_class class_of class_in ranges
+implies-yes b left [] e = cc
+implies-yes b left (x ∷ xs) e =
+    let q : 45 ≡ x = eqb-true 45 x (sym (begins-head 45 x xs) ∙ e) in
+    (ap (λ y. implies_token b (y ∷ xs) left) (sym q), ap (λ y. y ∷ xs) (sym q))
+
+implies-no : (b left : ℕ) (xs : List ℕ) → begins 45 xs ≡ false → implies_token b xs left ≡ token invalid (b ∷ []) left
+unfolding implies_token
+implies-no b left [] e = refl
+implies-no b left (x ∷ xs) e =
+    let z = minus-only x (λ q. let w : true ≡ false = sym (eq-eqb 45 x (sym q)) ∙ sym (begins-head 45 x xs) ∙ e in cc) in
+    rw (z, implies_token) refl
 
 -- The number at a place.
 module _ (text : List ℕ) (from : ℕ) where
-  pub no_number : length text ≤ from → from ≤ length text → DigitsAt text from (numeral (drop from text)) (record { to = from; value = 0 })
-  unfolding numeral value
-  no_number h l =
-      let e : numeral (drop from text) ≡ [] = ap numeral (drop_of_length-le text h) in
-      rw e (record { later = omega arith; inside = l; size = omega arith; small = λ _. refl; large = λ q. absurd (omega arith) })
+  abbrev from_here : List ℕ
+  from_here = take (length text - from) (drop from text)
 
-  pub zero_number :
-      from < length text → class_number (class_of (get_or text from 0)) ≡ 3 → DigitsAt text from (numeral (drop from text)) (record { to = from + 1; value = 0 })
-  unfolding numeral value is_class
-  zero_number h c =
-      let b = get_or text from 0 in
-      let z : b ≡ 48 = zero-byte b c in
-      let e : numeral (drop from text) ≡ b ∷ [] = ap numeral (drop-cons text from 0 h) ∙ rw (eq-eqb (class_number (class_of b)) 3 c, numeral) refl in
-      let v : 10 * 0 + (b - 48) ≡ 0 = omega arith in
-      rw e (record { later = omega arith; inside = omega arith; size = omega arith; small = λ _. v; large = λ q. absurd (omega arith) })
+  pub zero_number : from ≤ length text → begins 48 from_here ≡ true → DigitsAt text from (numeral (drop from text)) (record { to = from + 1; value = 0 })
+  unfolding value
+  zero_number h b =
+      let e = numeral-zero (drop from text) (ap (begins 48) (sym (up-to-end from text)) ∙ b) in
+      rw e.0 (record { later = omega arith; inside = omega (arith, e.1, length-drop from text); size = omega arith; number = refl })
 
-  pub other-number :
-      from < length text → (class_number (class_of (get_or text from 0)) ≡ 3 → ⊥) → (n : Numeral) → DigitsAt text from (longest digit_byte (drop from text)) n
-      → DigitsAt text from (numeral (drop from text)) n
-  unfolding numeral is_class
-  other-number h c n d =
-      let b = get_or text from 0 in
-      let e : numeral (drop from text) ≡ longest digit_byte (drop from text) =
-      ap numeral (drop-cons text from 0 h) ∙ rw (ne_eqb (class_number (class_of b)) 3 c, numeral) refl ∙ ap (longest digit_byte) (sym (drop-cons text from 0 h)) in
-      rw e d
+  pub other-number : begins 48 from_here ≡ false → (n : Numeral) → DigitsAt text from (longest digit_byte (drop from text)) n → DigitsAt text from (numeral (drop from text)) n
+  other-number b n d = rw (numeral-other (drop from text) (ap (begins 48) (sym (up-to-end from text)) ∙ b)) d
 
 -- The token at a place in the text.
 module _ (text : List ℕ) (from : ℕ) (h : from < length text) where
@@ -117,9 +137,6 @@ module _ (text : List ℕ) (from : ℕ) (h : from < length text) where
   abbrev rest : List ℕ
   rest = drop (suc from) text
 
-  abbrev class : ℕ
-  class = class_number (class_of byte)
-
   left : length (byte ∷ rest) ≡ length text - from
   left = omega (arith, length-drop (suc from) text)
 
@@ -128,155 +145,156 @@ module _ (text : List ℕ) (from : ℕ) (h : from < length text) where
 
   -- It is its bytes ys, of kind k.
   scan :
-      (k : Kind) (r : Token) (ys zs : List ℕ) → r.from ≡ from → ys ++ zs ≡ byte ∷ rest → r.to - from ≡ length ys → 1 ≤ length ys → kind_number k ≡ r.kind
-      → (r.kind ≡ 1 → ⊥) → token_from (class_of byte) byte rest ≡ token k ys (length (byte ∷ rest)) → (r.kind ≡ 3 → r.value ≡ value 0 ys)
-      → (r.kind ≡ 4 → r.value ≡ value 0 (drop 1 ys)) → Scanned text from r
-  scan k r ys zs f e n some is_kind in_text t a_number a_variable =
-      let bytes : take (r.to - from) (drop from text) ≡ ys =
+      (k : Kind) (to : ℕ) (ys zs : List ℕ) → ys ++ zs ≡ byte ∷ rest → to - from ≡ length ys → 1 ≤ length ys → (k ≡ Ending → ⊥)
+      → token_from (class_of byte) byte rest ≡ token (kind_of k) ys (length (byte ∷ rest)) → ((n : ℕ) → k ≡ Number n → n ≡ value 0 ys)
+      → ((v : ℕ) → k ≡ Variable v → v ≡ value 0 (drop 1 ys)) → Scanned text from (record { kind = k; from = from; to = to })
+  scan k to ys zs e n some in_text t a_number a_variable =
+      let bytes : take (to - from) (drop from text) ≡ ys =
       ap₂ take n (drop-cons text from 0 h ∙ sym e) ∙ take-append_seam ys zs in
       let all : length ys + length zs ≡ length (byte ∷ rest) = sym (length-append ys zs) ∙ ap length e in
       record {
-        begins = f;
+        begins = refl;
         later = omega (arith, n, some);
         inside = omega (arith, n, some, all, left);
         in_text = in_text;
-        sort = k;
-        kind = is_kind;
-        scanned = t ∙ ap₂ (token k) (sym bytes) left;
-        number = λ q. a_number q ∙ ap (value 0) (sym bytes);
-        variable = λ q. a_variable q ∙ ap (λ xs. value 0 (drop 1 xs)) (sym bytes);
+        scanned = t ∙ ap₂ (token (kind_of k)) (sym bytes) left;
+        number = λ m q. a_number m q ∙ ap (value 0) (sym bytes);
+        variable = λ v q. a_variable v q ∙ ap (λ xs. value 0 (drop 1 xs)) (sym bytes);
       }
 
   one : from + 1 - from ≡ 1
   one = omega arith
 
-  scan-one :
-      (k : Kind) (n : ℕ) → kind_number k ≡ n → (n ≡ 1 → ⊥) → (n ≡ 3 → ⊥) → (n ≡ 4 → ⊥) → token_from (class_of byte) byte rest ≡ token k (byte ∷ []) (length (byte ∷ rest))
-      → Scanned text from (single n from)
-  scan-one k n e p q r t = scan k (single n from) (byte ∷ []) rest refl refl one (omega arith) e p t (λ x. absurd (q x)) (λ x. absurd (r x))
+  -- A mark, or bytes that are no token.
+  scan-mark : (k : Kind) → 6 ≤ kind_number (kind_of k) → token_from (class_of byte) byte rest ≡ token (kind_of k) (byte ∷ []) (length (byte ∷ rest)) → Scanned text from (single k from)
+  scan-mark k l t = scan k (from + 1) (byte ∷ []) rest refl one (omega arith) (λ q. absurd (not_one (ap (λ x. kind_number (kind_of x)) q))) t (λ n q. absurd (not_three (ap (λ x. kind_number (kind_of x)) q))) (λ v q. absurd (not_four (ap (λ x. kind_number (kind_of x)) q)))
+    where
+      not_one : kind_number (kind_of k) ≡ 1 → ⊥
+      not_one q = omega arith
 
-  pub mark-scanned : 16 ≤ class → Scanned text from (single (class - 16) from)
+      not_three : kind_number (kind_of k) ≡ 3 → ⊥
+      not_three q = omega arith
+
+      not_four : kind_number (kind_of k) ≡ 4 → ⊥
+      not_four q = omega arith
+
+  pub mark-scanned : (k : Kind) → mark (kind_of k) ≡ class_of byte → Scanned text from (single k from)
   unfolding token_from
-  mark-scanned l =
-      let m = is-mark (class_of byte) l in
-      let n : kind_number m.0 ≡ class - 16 = omega (arith, ap class_number m.1) in
-      let r = mark-range byte l in
-      scan-one m.0 (class - 16) n (λ q. omega (arith, r)) (λ q. omega (arith, r)) (λ q. omega (arith, r)) (ap (λ c. token_from c byte rest) m.1)
+  mark-scanned k c = scan-mark k (mark-kinds byte (kind_of k) (sym c)) (ap (λ c. token_from c byte rest) (sym c))
 
-  pub invalid-scanned :
-      (class ≡ 2 → ⊥) × (class ≡ 3 → ⊥) × (class ≡ 4 → ⊥) × (class ≡ 5 → ⊥) × (class ≡ 6 → ⊥) × (class < 16) → Scanned text from (single 0 from)
-  invalid-scanned e = scan-one invalid 0 refl (λ q. omega arith) (λ q. omega arith) (λ q. omega arith) (invalid-from (class_of byte) byte rest e)
+  scan-invalid : (to : ℕ) (ys zs : List ℕ) → ys ++ zs ≡ byte ∷ rest → to - from ≡ length ys → 1 ≤ length ys → token_from (class_of byte) byte rest ≡ token invalid ys (length (byte ∷ rest)) → Scanned text from (record { kind = Invalid; from = from; to = to })
+  scan-invalid to ys zs e n some t = scan Invalid to ys zs e n some (λ q. cc) t (λ m q. cc) (λ v q. cc)
+
+  pub invalid-scanned : (k : Class) → (k ≡ Unknown) ⊎ (k ≡ Space) ⊎ (k ≡ Minus) → rule_class k ≡ class_of byte → Scanned text from (single Invalid from)
+  unfolding token_from
+  invalid-scanned k c e = scan-invalid (from + 1) (byte ∷ []) rest refl one (omega arith) (ap (λ c. token_from c byte rest) (sym e) ∙ go c)
+    where
+      go : (k ≡ Unknown) ⊎ (k ≡ Space) ⊎ (k ≡ Minus) → token_from (rule_class k) byte rest ≡ token invalid (byte ∷ []) (length (byte ∷ rest))
+      go (inl q) = ap (λ c. token_from (rule_class c) byte rest) q
+      go (inr (inl q)) = ap (λ c. token_from (rule_class c) byte rest) q
+      go (inr (inr q)) = ap (λ c. token_from (rule_class c) byte rest) q
 
   pub name-scanned :
-      class ≡ 2 → (to : ℕ) → (from + 1 ≤ to) × (to ≤ length text) × (to - (from + 1) ≡ length (take 15 (longest word_byte (drop (from + 1) text))))
-      → Scanned text from (record { kind = 2; from = from; to = to; value = 0 })
+      class_of byte ≡ letter → (to : ℕ) → (from + 1 ≤ to) × (to ≤ length text) × (to - (from + 1) ≡ length (take 15 (longest word_byte (drop (from + 1) text))))
+      → Scanned text from (record { kind = Name; from = from; to = to })
   unfolding token_from
   name-scanned c to e =
       let ys = take 15 (longest word_byte rest) in
       let p = take-front 15 (longest word_byte rest) rest (longest-front word_byte rest) in
       let n : to - (from + 1) ≡ length ys = e.2 ∙ ap (λ xs. length (take 15 (longest word_byte xs))) after_one in
-      scan name _ (byte ∷ ys) p.0 refl (ap {B = List ℕ} (byte ∷◌) p.1) (omega (arith, n, e.0)) (omega arith) refl (λ q. omega arith)
-      (ap (λ c. token_from c byte rest) (is-letter (class_of byte) c)) (λ q. absurd (omega arith)) (λ q. absurd (omega arith))
+      scan Name to (byte ∷ ys) p.0 (ap {B = List ℕ} (byte ∷◌) p.1) (omega (arith, n, e.0)) (omega arith) (λ q. cc)
+      (ap (λ c. token_from c byte rest) c) (λ m q. cc) (λ v q. cc)
 
   -- Numbers.
-  module _ (c : (3 ≤ class) × (class ≤ 4)) (n : Numeral) (d : DigitsAt text from (numeral (drop from text)) n) where
+  module _ (c : (class_of byte ≡ zero_digit) ⊎ (class_of byte ≡ digit)) (n : Numeral) (d : DigitsAt text from (numeral (drop from text)) n) where
     digits : DigitsAt text from (numeral (byte ∷ rest)) n
     digits = rw (drop-cons text from 0 h) at d
 
-    from-number : (k : Kind) → at_most 15 number (value 0 (numeral (byte ∷ rest))) ≡ k → token_from (class_of byte) byte rest ≡ token k (numeral (byte ∷ rest)) (length (byte ∷ rest))
-    unfolding number_token
-    from-number k e = number-from (class_of byte) byte rest c ∙ ap (λ k. token k (numeral (byte ∷ rest)) (length (byte ∷ rest))) e
+    is-digit : digit_byte byte ≡ true
+    unfolding digit_byte is_class
+    is-digit = go c
+      where
+        go : (class_of byte ≡ zero_digit) ⊎ (class_of byte ≡ digit) → digit_byte byte ≡ true
+        go (inl e) = rw e refl
+        go (inr e) = rw e refl
 
-    pub number-scanned : n.value ≤ 15 → Scanned text from (record { kind = 3; from = from; to = n.to; value = n.value })
+    from-number : (k : rules.Kind) → at_most 15 number (value 0 (numeral (byte ∷ rest))) ≡ k → token_from (class_of byte) byte rest ≡ token k (numeral (byte ∷ rest)) (length (byte ∷ rest))
+    unfolding number_token token_from
+    from-number k e = go c ∙ ap (λ k. token k (numeral (byte ∷ rest)) (length (byte ∷ rest))) e
+      where
+        go : (class_of byte ≡ zero_digit) ⊎ (class_of byte ≡ digit) → token_from (class_of byte) byte rest ≡ number_token (numeral (byte ∷ rest)) (length (byte ∷ rest))
+        go (inl e) = ap (λ c. token_from c byte rest) e
+        go (inr e) = ap (λ c. token_from c byte rest) e
+
+    pub number-scanned : n.value ≤ 15 → Scanned text from (record { kind = Number n.value; from = from; to = n.to })
     number-scanned l =
-        let v : value 0 (numeral (byte ∷ rest)) ≡ n.value = digits.small (omega arith) in
+        let v : value 0 (numeral (byte ∷ rest)) ≡ n.value = omega (arith, digits.number) in
         let p = numeral-front (byte ∷ rest) in
-        scan number _ (numeral (byte ∷ rest)) p.0 refl p.1 digits.size (numeral-some byte rest (digit-yes byte c.0 c.1)) refl (λ q. omega arith)
-        (from-number number (within 15 number (value 0 (numeral (byte ∷ rest))) (omega arith))) (λ q. sym v) (λ q. absurd (omega arith))
+        scan (Number n.value) n.to (numeral (byte ∷ rest)) p.0 p.1 digits.size (numeral-some byte rest is-digit) (λ q. cc)
+        (from-number number (within 15 number (value 0 (numeral (byte ∷ rest))) (omega arith))) (λ m q. let e : m ≡ n.value = cc in e ∙ sym v) (λ m q. cc)
 
-    pub large-scanned : 15 < n.value → Scanned text from (record { kind = 0; from = from; to = n.to; value = 0 })
+    pub large-scanned : 15 < n.value → Scanned text from (record { kind = Invalid; from = from; to = n.to })
     large-scanned l =
         let p = numeral-front (byte ∷ rest) in
-        scan invalid _ (numeral (byte ∷ rest)) p.0 refl p.1 digits.size (numeral-some byte rest (digit-yes byte c.0 c.1)) refl (λ q. omega arith)
-        (from-number invalid (over 15 number (value 0 (numeral (byte ∷ rest))) (digits-over text from (numeral (byte ∷ rest)) n 15 (omega arith) digits l)))
-        (λ q. absurd (omega arith)) (λ q. absurd (omega arith))
+        scan-invalid n.to (numeral (byte ∷ rest)) p.0 p.1 digits.size (numeral-some byte rest is-digit)
+        (from-number invalid (over 15 number (value 0 (numeral (byte ∷ rest))) (omega (arith, digits.number))))
 
   -- Variables.
-  module _ (c : class ≡ 5) (n : Numeral) (d : DigitsAt text (from + 1) (numeral (drop (from + 1) text)) n) where
+  module _ (c : class_of byte ≡ underscore) (n : Numeral) (d : DigitsAt text (from + 1) (numeral (drop (from + 1) text)) n) where
     after : DigitsAt text (from + 1) (numeral rest) n
     after = rw after_one at d
 
     from-variable : token_from (class_of byte) byte rest ≡ variable_token byte (numeral rest) (length (byte ∷ rest))
     unfolding token_from
-    from-variable = ap (λ c. token_from c byte rest) (is-underscore (class_of byte) c)
+    from-variable = ap (λ c. token_from c byte rest) c
 
-    pub bare-scanned : n.to ≡ from + 1 → Scanned text from (single 0 from)
+    pub bare-scanned : n.to ≡ from + 1 → Scanned text from (single Invalid from)
     bare-scanned e =
-        scan-one invalid 0 refl (λ q. omega arith) (λ q. omega arith) (λ q. omega arith)
-        (from-variable ∙ variable-empty byte (length (byte ∷ rest)) (numeral rest) (omega (arith, after.size)))
+        scan-invalid (from + 1) (byte ∷ []) rest refl one (omega arith) (from-variable ∙ variable-empty byte (length (byte ∷ rest)) (numeral rest) (omega (arith, after.size)))
 
     module _ (e : n.to ≡ from + 1 → ⊥) where
       full : 1 ≤ length (numeral rest)
-      full = go (dec_lt 0 (length (numeral rest)))
-        where
-          go : Dec (0 < length (numeral rest)) → 1 ≤ length (numeral rest)
-          go (yes l) = l
-          go (no l) = absurd (e (omega (arith, after.size, after.later)))
+      full = let l : from + 1 ≤ n.to = after.later in omega (arith, after.size)
 
       from-full :
-          (k : Kind) → at_most 1023 variable (value 0 (numeral rest)) ≡ k → token_from (class_of byte) byte rest ≡ token k (byte ∷ numeral rest) (length (byte ∷ rest))
+          (k : rules.Kind) → at_most 1023 variable (value 0 (numeral rest)) ≡ k → token_from (class_of byte) byte rest ≡ token k (byte ∷ numeral rest) (length (byte ∷ rest))
       from-full k q =
           from-variable ∙ variable-full byte (length (byte ∷ rest)) (numeral rest) full ∙ ap (λ k. token k (byte ∷ numeral rest) (length (byte ∷ rest))) q
 
-      pub variable-scanned : n.value ≤ 1023 → Scanned text from (record { kind = 4; from = from; to = n.to; value = n.value })
-      variable-scanned l =
-          let v : value 0 (numeral rest) ≡ n.value = after.small l in
-          let p = numeral-front rest in
-          scan variable _ (byte ∷ numeral rest) p.0 refl (ap {B = List ℕ} (byte ∷◌) p.1) (omega (arith, after.size, after.later)) (omega arith) refl
-          (λ q. omega arith) (from-full variable (within 1023 variable (value 0 (numeral rest)) (omega arith))) (λ q. absurd (omega arith)) (λ q. sym v)
+      size : n.to - from ≡ length (byte ∷ numeral rest)
+      size = omega (arith, after.size, after.later)
 
-      pub far-scanned : 1023 < n.value → Scanned text from (record { kind = 0; from = from; to = n.to; value = 0 })
+      pub variable-scanned : n.value ≤ 1023 → Scanned text from (record { kind = Variable n.value; from = from; to = n.to })
+      variable-scanned l =
+          let v : value 0 (numeral rest) ≡ n.value = omega (arith, after.number) in
+          let p = numeral-front rest in
+          scan (Variable n.value) n.to (byte ∷ numeral rest) p.0 (ap {B = List ℕ} (byte ∷◌) p.1) size (omega arith) (λ q. cc)
+          (from-full variable (within 1023 variable (value 0 (numeral rest)) (omega arith))) (λ m q. cc) (λ m q. let e : m ≡ n.value = cc in e ∙ sym v)
+
+      pub far-scanned : 1023 < n.value → Scanned text from (record { kind = Invalid; from = from; to = n.to })
       far-scanned l =
           let p = numeral-front rest in
-          scan invalid _ (byte ∷ numeral rest) p.0 refl (ap {B = List ℕ} (byte ∷◌) p.1) (omega (arith, after.size, after.later)) (omega arith) refl
-          (λ q. omega arith)
-          (from-full invalid (over 1023 variable (value 0 (numeral rest)) (digits-over text (from + 1) (numeral rest) n 1023 (omega arith) after l)))
-          (λ q. absurd (omega arith)) (λ q. absurd (omega arith))
+          scan-invalid n.to (byte ∷ numeral rest) p.0 (ap {B = List ℕ} (byte ∷◌) p.1) size (omega arith)
+          (from-full invalid (over 1023 variable (value 0 (numeral rest)) (omega (arith, after.number))))
 
   -- `:-`
-  module _ (c : class ≡ 6) where
+  module _ (c : class_of byte ≡ colon) where
     from-colon : token_from (class_of byte) byte rest ≡ implies_token byte rest (length (byte ∷ rest))
     unfolding token_from
-    from-colon = ap (λ c. token_from c byte rest) (is-colon (class_of byte) c)
+    from-colon = ap (λ c. token_from c byte rest) c
 
-    second : from + 1 < length text → rest ≡ get_or text (from + 1) 0 ∷ drop (suc (from + 1)) text
-    second l = sym after_one ∙ drop-cons text (from + 1) 0 l
+    second : take (length text - (from + 1)) (drop (from + 1) text) ≡ rest
+    second = up-to-end (from + 1) text ∙ after_one
 
-    pub colon-last : length text ≤ from + 1 → Scanned text from (single 0 from)
-    unfolding implies_token
-    colon-last l =
-        scan-one invalid 0 refl (λ q. omega arith) (λ q. omega arith) (λ q. omega arith)
-        (from-colon ∙ ap (λ bs. implies_token byte bs (length (byte ∷ rest))) (sym after_one ∙ drop_of_length-le text l))
+    pub colon-alone : begins 45 (take (length text - (from + 1)) (drop (from + 1) text)) ≡ false → Scanned text from (single Invalid from)
+    colon-alone e =
+        scan-invalid (from + 1) (byte ∷ []) rest refl one (omega arith) (from-colon ∙ implies-no byte (length (byte ∷ rest)) rest (ap (begins 45) (sym second) ∙ e))
 
-    pub colon-alone : from + 1 < length text → (class_number (class_of (get_or text (from + 1) 0)) ≡ 7 → ⊥) → Scanned text from (single 0 from)
-    unfolding is_class
-    colon-alone l q =
-        let b = get_or text (from + 1) 0 in
-        scan-one invalid 0 refl (λ q. omega arith) (λ q. omega arith) (λ q. omega arith)
-        (from-colon
-        ∙ ap (λ bs. implies_token byte bs (length (byte ∷ rest))) (second l)
-        ∙ implies-no byte b (length (byte ∷ rest)) (drop (suc (from + 1)) text) (ne_eqb (class_number (class_of b)) 7 q))
-
-    pub implies-scanned :
-        from + 1 < length text → class_number (class_of (get_or text (from + 1) 0)) ≡ 7 → Scanned text from (record { kind = 5; from = from; to = from + 2; value = 0 })
-    unfolding is_class
-    implies-scanned l q =
-        let b = get_or text (from + 1) 0 in
-        scan implies _ (byte ∷ b ∷ []) (drop (suc (from + 1)) text) refl (ap {B = List ℕ} (byte ∷◌) (sym (second l))) (omega arith) (omega arith) refl (λ q. omega arith)
-        (from-colon
-        ∙ ap (λ bs. implies_token byte bs (length (byte ∷ rest))) (second l)
-        ∙ implies-yes byte b (length (byte ∷ rest)) (drop (suc (from + 1)) text) (eq-eqb (class_number (class_of b)) 7 q))
-        (λ q. absurd (omega arith)) (λ q. absurd (omega arith))
+    pub implies-scanned : begins 45 (take (length text - (from + 1)) (drop (from + 1) text)) ≡ true → Scanned text from (record { kind = Implies; from = from; to = from + 2 })
+    implies-scanned e =
+        let p = implies-yes byte (length (byte ∷ rest)) rest (ap (begins 45) (sym second) ∙ e) in
+        scan Implies (from + 2) (byte ∷ 45 ∷ []) (drop 1 rest) (ap {B = List ℕ} (byte ∷◌) (sym p.1)) (omega arith) (omega arith) (λ q. cc)
+        (from-colon ∙ p.0) (λ m q. cc) (λ v q. cc)
 
 -- Bytes passed over.
 skip-drop : (k : ℕ) (bs : List ℕ) → tokens k bs ≡ tokens 0 (drop k bs)
@@ -289,10 +307,14 @@ take-token : (b : ℕ) (bs : List ℕ) → is_class space b ≡ false → tokens
 unfolding tokens
 take-token b bs e = rw (e, tokens)
 
+-- The tokens after one that is not the last.
+pub not-ending : (k : Kind) (text : List ℕ) (to : ℕ) → (k ≡ Ending → ⊥) → tokens_from k text to ≡ tokens 0 (drop to text)
+not-ending k text to f = grind (arith, f)
+
 -- The next token.
 module _ (text : List ℕ) (at from : ℕ) (s : Skipped text at from) where
   token-tokens :
-      (to : ℕ) (k : Kind) → from < length text → from < to → to ≤ length text
+      (to : ℕ) (k : rules.Kind) → from < length text → from < to → to ≤ length text
       → token_from (class_of (get_or text from 0)) (get_or text from 0) (drop (suc from) text) ≡ token k (take (to - from) (drop from text)) (length text - from)
       → tokens 0 (drop at text) ≡ token k (take (to - from) (drop from text)) (length text - from) ∷ tokens 0 (drop to text)
   token-tokens to k h l m t =
@@ -308,20 +330,18 @@ module _ (text : List ℕ) (at from : ℕ) (s : Skipped text at from) where
 
   pub next-scanned : (r : Token) → from < length text → Scanned text from r → Next text at r
   next-scanned r h t =
-      let all = token-tokens r.to t.sort h t.later t.inside t.scanned in
+      let all = token-tokens r.to (kind_of r.kind) h t.later t.inside t.scanned in
       record {
         later = omega (arith, s.later, t.begins);
         forward = omega (arith, t.begins, t.later);
         progress = λ _. omega (arith, t.begins, t.later);
         inside = t.inside;
-        sort = t.sort;
-        kind = t.kind;
-        scanned = rw (t.begins, ne_eqb r.kind 1 t.in_text, tokens_from) all;
-        number = λ q. t.number q ∙ ap (λ k. value 0 (take (r.to - k) (drop k text))) (sym t.begins);
-        variable = λ q. t.variable q ∙ ap (λ k. value 0 (drop 1 (take (r.to - k) (drop k text)))) (sym t.begins);
+        scanned = rw (t.begins, not-ending r.kind text r.to t.in_text) all;
+        number = λ m q. t.number m q ∙ ap (λ k. value 0 (take (r.to - k) (drop k text))) (sym t.begins);
+        variable = λ v q. t.variable v q ∙ ap (λ k. value 0 (drop 1 (take (r.to - k) (drop k text)))) (sym t.begins);
       }
 
-  pub next-ended : length text ≤ from → Next text at (record { kind = 1; from = from; to = from; value = 0 })
+  pub next-ended : length text ≤ from → Next text at (record { kind = Ending; from = from; to = from })
   unfolding tokens
   next-ended h =
       let e : drop from text ≡ [] = drop_of_length-le text h in
@@ -332,9 +352,7 @@ module _ (text : List ℕ) (at from : ℕ) (s : Skipped text at from) where
         forward = omega arith;
         progress = λ f. absurd (f refl);
         inside = s.inside;
-        sort = ending;
-        kind = refl;
         scanned = s.same ∙ ap (tokens 0) e ∙ rw (z, w) refl;
-        number = λ q. absurd (omega arith);
-        variable = λ q. absurd (omega arith);
+        number = λ m q. cc;
+        variable = λ v q. cc;
       }

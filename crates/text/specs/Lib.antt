@@ -1,4 +1,6 @@
+pub mod Kinds
 pub mod Scan
-pub mod Names
 pub mod Steps
 pub mod Counting
+pub mod Hash
+pub mod Names

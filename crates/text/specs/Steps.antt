@@ -1,21 +1,22 @@
 -- The states of the grammar as the code has them.
-use Rattle.std.specs.Prelude.{ℕ, ◌-◌, ◌≡◌, Bool, true, false, List, take, drop}
-use Rattle.std.proofs.Math.Option.{Option, none, some}
-use Rattle.text_rules.specs.TextTokens.{kind_number, Token}
+use Rattle.std.specs.Prelude.{ℕ, ◌-◌, ◌≡◌, Bool, List, take, drop, Option, Some, None}
+use Rattle.std.proofs.Math.Option as math
+use Rattle.text_rules.specs.TextTokens as rules
 use Rattle.text_rules.specs.TextGrammar.{is_key, Part, head, body, item, keyed, declared, slashed, counted, clause, literal, negated, finished, term, named, after, Follow, next}
-use Rattle.text_rules.specs.TextGrammar as rules
+use Rattle.text_rules.specs.TextGrammar as grammar
+use Rattle.text.specs.declared.tokens.Kind.{Kind}
+use Rattle.text.specs.declared.tokens.Token.{Token}
+use Rattle.text.specs.declared.grammar.Part as code
+use Rattle.text.specs.declared.grammar.Part.TheVariants.{Head, Body}
 use Rattle.text.specs.declared.grammar.State.{State}
 use Rattle.text.specs.declared.grammar.State.TheVariants.{Item, Keyed, Declared, Slashed, Counted, Clause, Literal, Negated, Finished, Term, Named, After}
-use Rattle.text.specs.declared.grammar.Step.{Step}
-use Rattle.text.specs.declared.grammar.Step.TheVariants as step
-use Rattle.text.specs.declared.grammar.Place.{Place}
-use Rattle.text.specs.declared.grammar.Place.TheVariants as place
+use Rattle.text.specs.Kinds.{kind_of}
 
-abbrev pub part_of : Bool → Part
-part_of true = body
-part_of false = head
+abbrev pub part_of : code.Part → Part
+part_of Head = head
+part_of Body = body
 
-abbrev pub state_of : State → rules.State
+abbrev pub state_of : State → grammar.State
 state_of Item = item
 state_of Keyed = keyed
 state_of Declared = declared
@@ -25,11 +26,11 @@ state_of Clause = clause
 state_of Literal = literal
 state_of Negated = negated
 state_of Finished = finished
-state_of (Term b d) = term (part_of b) d
-state_of (Named b d) = named (part_of b) d
-state_of (After b d) = after (part_of b) d
+state_of (Term p d) = term (part_of p) d
+state_of (Named p d) = named (part_of p) d
+state_of (After p d) = after (part_of p) d
 
-abbrev pub depth_of : rules.State → ℕ
+abbrev pub depth_of : grammar.State → ℕ
 depth_of item = 0
 depth_of keyed = 0
 depth_of declared = 0
@@ -43,18 +44,18 @@ depth_of (term p d) = d
 depth_of (named p d) = d
 depth_of (after p d) = d
 
-abbrev pub step_of : Step → Option rules.State
-step_of (step.To s) = some (state_of s)
-step_of step.Nowhere = none
+abbrev pub step_of : Option State → math.Option grammar.State
+step_of (Some s) = math.some (state_of s)
+step_of None = math.none
 
-abbrev pub option_of : Place → Option ℕ
-option_of (place.At n) = some n
-option_of place.Nowhere = none
+abbrev pub option_of : Option ℕ → math.Option ℕ
+option_of (Some n) = math.some n
+option_of None = math.none
 
 -- What follows, of a token of that kind.
-abbrev pub Says : List Follow → ℕ → Step → Type 0
-Says fs kind r = (t : Token) → kind_number t.kind ≡ kind → next fs t ≡ step_of r
+abbrev pub Says : List Follow → Kind → Option State → Type 0
+Says fs kind r = (t : rules.Token) → t.kind ≡ kind_of kind → next fs t ≡ step_of r
 
 -- Whether a token of that kind and those bytes is `fn` or `pr`.
-abbrev pub Keys : List ℕ → ℕ → ℕ → ℕ → Bool → Type 0
-Keys text kind from to r = (t : Token) → kind_number t.kind ≡ kind → t.bytes ≡ take (to - from) (drop from text) → is_key t ≡ r
+abbrev pub Keys : List ℕ → Token → Bool → Type 0
+Keys text t r = (u : rules.Token) → u.kind ≡ kind_of t.kind → u.bytes ≡ take (t.to - t.from) (drop t.from text) → is_key u ≡ r

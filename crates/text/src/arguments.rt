@@ -4,35 +4,38 @@ ghost use Rattle.text_rules.specs.TextTokens.{tokens};
 ghost use Rattle.text_rules.specs.TextWords.{given_arguments};
 ghost use Rattle.text.specs.Counting.{Counts};
 
-use crate::tokens;
+use crate::tokens::{Kind, next_token};
 
-// Brackets open inside the name's own, and arguments begun; or the name's own is closed.
-#[derive(Drop)]
-pub enum Count {
-    Inside(usize, usize),
-    Closed,
+// Brackets open inside the name's own, and arguments begun.
+#[derive(Clone, Copy, Debug, PartialEq, Eq)]
+pub struct Count {
+    pub depth: usize,
+    pub begun: usize,
 }
 
-fn counted(depth: usize, begun: usize, kind: u8) -> Count
-    requires { (depth < 18446744073709551615) × (begun < 18446744073709551615) }
-    ensures { Counts depth begun kind result }
+// After a token of that kind; none where it closes the name's own bracket.
+#[tactic(auto, unfolding(text_rules::specs::TextWords::commas))]
+fn counted(c: Count, kind: Kind) -> Option<Count>
+    requires { (c.depth < usize.MAX) × (c.begun < usize.MAX) }
+    ensures { Counts c kind result }
 {
-    if kind == 8 {
-        return Count::Inside(depth + 1, begun);
+    let Count { depth, begun } = c;
+    match (kind, depth) {
+        (Kind::Opening, _) => Some(Count {
+            depth: depth + 1,
+            begun,
+        }),
+        (Kind::Closing, 0) => None,
+        (Kind::Closing, _) => Some(Count {
+            depth: depth - 1,
+            begun,
+        }),
+        (Kind::Comma, 0) => Some(Count {
+            depth,
+            begun: begun + 1,
+        }),
+        _ => Some(c),
     }
-    if depth == 0 {
-        if kind == 9 {
-            return Count::Closed;
-        }
-        if kind == 10 {
-            return Count::Inside(0, begun + 1);
-        }
-        return Count::Inside(0, begun);
-    }
-    if kind == 9 {
-        return Count::Inside(depth - 1, begun);
-    }
-    Count::Inside(depth, begun)
 }
 
 // The arguments of a name that ends at `at`.
@@ -40,25 +43,22 @@ pub fn arguments(text: &[u8], at: usize) -> usize
     requires { at ≤ length text.now }
     ensures { result ≡ given_arguments (tokens 0 (drop at text.now)) }
 {
-    let first = tokens::next_token(text, at);
-    if first.kind != 8 {
+    let first = next_token(text, at);
+    let Kind::Opening = first.kind else {
         return 0;
-    }
+    };
     let mut place = first.to;
-    let mut depth: usize = 0;
-    let mut begun: usize = 1;
+    let mut count = Count { depth: 0, begun: 1 };
+    // A token's end is known once it is read, so this is no `for`.
     loop {
-        let t = tokens::next_token(text, place);
-        let kind = t.kind;
-        if kind == 1 {
-            return begun;
+        let t = next_token(text, place);
+        if let Kind::Ending = t.kind {
+            return count.begun;
         }
-        let next = counted(depth, begun, kind);
-        let Count::Inside(d, b) = next else {
-            return begun;
+        let Some(next) = counted(count, t.kind) else {
+            return count.begun;
         };
-        depth = d;
-        begun = b;
+        count = next;
         place = t.to;
     }
 }

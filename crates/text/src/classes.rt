@@ -1,22 +1,78 @@
 // Classes of bytes.
 ghost use Rattle.std.specs.Prelude.{◌≡◌};
-ghost use Rattle.text_rules.specs.TextTokens.{class_number, class_of};
+ghost use Rattle.text_rules.specs.TextTokens.{space, is_class, digit_byte, word_byte, class_of};
+ghost use Rattle.text.specs.Kinds.{rule_class};
 
-// By their numbers: 1 spacing, 2 letter, 3 zero, 4 other digit, 5 `_`, 6 `:`, 7 `-`; 16 and the number of its kind for a token of one byte.
-const CLASSES: [u8; 128] = [
-    0, 0, 0, 0, 0, 0, 0, 0, 0, 0, 1, 0, 0, 0, 0, 0, 0, 0, 0, 0, 0, 0, 0, 0, 0, 0, 0, 0, 0, 0, 0, 0,
-    1, 0, 0, 0, 0, 0, 0, 0, 24, 25, 0, 0, 26, 7, 23, 22, 3, 4, 4, 4, 4, 4, 4, 4, 4, 4, 6, 0, 0, 0,
-    0, 0, 0, 0, 0, 0, 0, 0, 0, 0, 0, 0, 0, 0, 0, 0, 0, 0, 0, 0, 0, 0, 0, 0, 0, 0, 0, 0, 0, 0, 0, 0,
-    0, 5, 0, 2, 2, 2, 2, 2, 2, 2, 2, 2, 2, 2, 2, 2, 2, 2, 2, 2, 2, 2, 2, 2, 2, 2, 2, 2, 2, 0, 0, 0,
-    27, 0,
+use crate::tokens::Kind;
+use Class::{Colon, Digit, Letter, Minus, Space, Underscore, Unknown, Zero};
+
+// A mark is a token by itself.
+#[derive(Clone, Copy, Debug, PartialEq, Eq)]
+pub enum Class {
+    Unknown,
+    Space,
+    Letter,
+    Zero,
+    Digit,
+    Underscore,
+    Colon,
+    Minus,
+    Mark(Kind),
+}
+
+const SLASH: Class = Class::Mark(Kind::Slash);
+
+const DOT: Class = Class::Mark(Kind::Dot);
+
+const OPENING: Class = Class::Mark(Kind::Opening);
+
+const CLOSING: Class = Class::Mark(Kind::Closing);
+
+const COMMA: Class = Class::Mark(Kind::Comma);
+
+const TILDE: Class = Class::Mark(Kind::Tilde);
+
+static CLASSES: [Class; 128] = [
+    Unknown, Unknown, Unknown, Unknown, Unknown, Unknown, Unknown, Unknown, Unknown, Unknown,
+    Space, Unknown, Unknown, Unknown, Unknown, Unknown, Unknown, Unknown, Unknown, Unknown,
+    Unknown, Unknown, Unknown, Unknown, Unknown, Unknown, Unknown, Unknown, Unknown, Unknown,
+    Unknown, Unknown, Space, Unknown, Unknown, Unknown, Unknown, Unknown, Unknown, Unknown,
+    OPENING, CLOSING, Unknown, Unknown, COMMA, Minus, DOT, SLASH, Zero, Digit, Digit, Digit, Digit,
+    Digit, Digit, Digit, Digit, Digit, Colon, Unknown, Unknown, Unknown, Unknown, Unknown, Unknown,
+    Unknown, Unknown, Unknown, Unknown, Unknown, Unknown, Unknown, Unknown, Unknown, Unknown,
+    Unknown, Unknown, Unknown, Unknown, Unknown, Unknown, Unknown, Unknown, Unknown, Unknown,
+    Unknown, Unknown, Unknown, Unknown, Unknown, Unknown, Unknown, Unknown, Unknown, Unknown,
+    Underscore, Unknown, Letter, Letter, Letter, Letter, Letter, Letter, Letter, Letter, Letter,
+    Letter, Letter, Letter, Letter, Letter, Letter, Letter, Letter, Letter, Letter, Letter, Letter,
+    Letter, Letter, Letter, Letter, Letter, Unknown, Unknown, Unknown, TILDE, Unknown,
 ];
 
-pub fn class_of(b: u8) -> u8
-    ensures { result ≡ class_number (class_of b) }
+// The bytes above 127 belong to no class.
+pub fn class_of(b: u8) -> Class
+    ensures { rule_class result ≡ class_of b }
 {
-    let i = b as usize;
-    if i < 128 {
-        return CLASSES[i];
-    }
-    0
+    let i = usize::from(b);
+    if i < 128 { CLASSES[i] } else { Unknown }
+}
+
+#[tactic(auto, unfolding(text_rules::specs::TextTokens::is_class, text_rules::specs::TextTokens::digit_byte, text_rules::specs::TextTokens::word_byte))]
+pub fn is_space(b: u8) -> bool
+    ensures { result ≡ is_class space b }
+{
+    matches!(class_of(b), Class::Space)
+}
+
+#[tactic(auto, unfolding(text_rules::specs::TextTokens::is_class, text_rules::specs::TextTokens::digit_byte, text_rules::specs::TextTokens::word_byte))]
+pub fn is_digit(b: u8) -> bool
+    ensures { result ≡ digit_byte b }
+{
+    matches!(class_of(b), Class::Zero | Class::Digit)
+}
+
+// A letter or a digit.
+#[tactic(auto, unfolding(text_rules::specs::TextTokens::is_class, text_rules::specs::TextTokens::digit_byte, text_rules::specs::TextTokens::word_byte))]
+pub fn is_word(b: u8) -> bool
+    ensures { result ≡ word_byte b }
+{
+    matches!(class_of(b), Class::Letter | Class::Zero | Class::Digit)
 }

@@ -1,4 +1,4 @@
-// Texts (document 02, U1): their bytes as tokens; a table of declared names.
+// Texts: their bytes as tokens, the grammar, and a table of names.
 #![tactic(auto)]
 
 pub mod arguments;

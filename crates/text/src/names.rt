@@ -1,107 +1,133 @@
-// A table of declared names in lent lists, chained by a hash.
-ghost use Rattle.std.specs.Prelude.{◌≡◌, ◌+◌, ◌*◌, ◌%◌, ◌-◌, ◌≤◌, ◌<◌, length, set};
-ghost use Rattle.std.proofs.Math.Seq.{slice};
-ghost use Rattle.text_rules.specs.TextGrammar.{same_bytes};
-ghost use Rattle.text.specs.Names.{hash_of, last_with, name_at, is_name, Entered};
+// A table of a text's names, chained by a hash.
+ghost use Rattle.std.specs.Prelude.{◌≡◌, ◌+◌, ◌≤◌, ◌<◌, [], length};
+ghost use Rattle.text.specs.Hash.{hash_of, last_with, found_at, is_name};
 
-fn mix(h: u32, b: u8) -> u32
-    requires { h < 1021 }
-    ensures { (result ≡ (31 * h + b) % 1021) × (result < 1021) }
-{
-    (31 * h + b as u32) % 1021
+use std::marker::Model;
+
+pub const ROOM: usize = 4096;
+
+const BUCKETS: usize = 1021;
+
+// A name is the bytes of the text from `from` up to `to`; a value was entered with it.
+#[derive(Clone, Copy, Debug, PartialEq, Eq)]
+pub struct Entry {
+    pub from: usize,
+    pub to: usize,
+    pub value: usize,
 }
 
-pub fn hash(text: &[u8], from: usize, to: usize) -> usize
-    requires { (from ≤ to) × (to ≤ length text.now) }
-    ensures { (result ≡ hash_of 0 (slice from to text.now)) × (result < 1021) }
+// A name, and the number of the name before it in its bucket.
+#[derive(Clone, Copy, Debug, PartialEq, Eq)]
+pub struct Slot {
+    entry: Entry,
+    before: Option<u16>,
+}
+
+// The first `count` slots are taken; `heads` has the last name of each bucket. Fixed arrays, since nothing here allocates.
+#[derive(Drop)]
+pub struct Names<'a> {
+    text: &'a [u8],
+    slots: [Slot; ROOM],
+    heads: [Option<u16>; BUCKETS],
+    count: usize,
+}
+
+impl<'a> Model for Names<'a> {
+    ghost use Rattle.text.specs.Names.{Table, the_table, Chained};
+
+    ghost Value = { Table };
+
+    ghost view = { λ n. the_table n.text.now n.slots n.count };
+
+    ghost invariant = { λ n. Chained n.text.now n.slots n.heads n.count };
+}
+
+fn hash(bytes: &[u8]) -> usize
+    ensures equal { result ≡ hash_of 0 bytes.now }
+    ensures small { result < 1021 }
 {
-    let mut h: u32 = 0;
-    let mut i = from;
-    while i < to {
-        h = mix(h, text[i]);
-        i += 1;
+    let mut h = 0;
+    for b in bytes {
+        h = (31 * h + usize::from(*b)) % BUCKETS;
     }
-    h as usize
+    h
 }
 
-// Whether the bytes from a and from b on are the same, n of them.
-fn same_bytes(text: &[u8], a: usize, b: usize, n: usize) -> bool
-    requires { (a + n ≤ length text.now) × (b + n ≤ length text.now) }
-    ensures { result ≡ same_bytes (slice a (a + n) text.now) (slice b (b + n) text.now) }
-{
-    let mut i = 0;
-    while i < n {
-        if text[a + i] != text[b + i] {
-            return false;
+impl<'a> Names<'a> {
+    ghost use Rattle.text.specs.Names.{empty_table, entry_at, name_at, entered};
+
+    // No names yet, with room for 4,096.
+    pub fn new(text: &'a [u8]) -> Names<'a>
+        ensures { result ≡ empty_table text.now }
+    {
+        let entry = Entry {
+            from: 0,
+            to: 0,
+            value: 0,
+        };
+        let before = None;
+        Names {
+            text,
+            slots: [Slot { entry, before }; ROOM],
+            heads: [None; BUCKETS],
+            count: 0,
         }
-        i += 1;
     }
-    true
-}
 
-pub fn same_name(text: &[u8], a: usize, b: usize, from: usize, to: usize) -> bool
-    requires { (a ≤ b) × (b ≤ length text.now) × (from ≤ to) × (to ≤ length text.now) }
-    ensures { result ≡ same_bytes (slice a b text.now) (slice from to text.now) }
-{
-    let n = to - from;
-    if b - a != n {
-        return false;
+    pub fn text(&self) -> &'a [u8]
+        ensures { result.now ≡ self.now.text }
+    {
+        self.text
     }
-    same_bytes(text, a, from, n)
-}
 
-// One more than the number of the last of the first n names that is the one from `from` up to `to`; 0 where there is none.
-pub fn find(
-    text: &[u8],
-    froms: &[usize],
-    tos: &[usize],
-    heads: &[u16],
-    befores: &[u16],
-    n: usize,
-    from: usize,
-    to: usize,
-) -> usize
-    requires from_le_to { (from ≤ to) × (to ≤ length text.now) }
-    requires entered { Entered text.now froms.now tos.now heads.now befores.now n }
-    ensures { result ≡ last_with (is_name (slice from to text.now)) (name_at text.now froms.now tos.now) n }
-{
-    let h = hash(text, from, to);
-    let mut j = wide(heads[h]);
-    while j != 0 {
-        let k = j - 1;
-        if same_name(text, froms[k], tos[k], from, to) {
-            return j;
+    pub fn len(&self) -> usize
+        ensures equal { result ≡ length self.now.entries }
+        ensures few { result ≤ 4096 }
+    {
+        self.count
+    }
+
+    pub fn get(&self, j: usize) -> Entry
+        requires { j < length self.now.entries }
+        ensures equal { result ≡ entry_at self.now j }
+        ensures forward { result.from ≤ result.to }
+        ensures inside { result.to ≤ length self.now.text }
+    {
+        let slots = &self.slots;
+        slots[j].entry
+    }
+
+    // The number of the last name of those bytes.
+    pub fn find(&self, bytes: &[u8]) -> Option<usize>
+        ensures { result ≡ found_at (last_with (is_name bytes.now) (name_at self.now) (length self.now.entries)) }
+    {
+        let mut next = self.heads[hash(bytes)];
+        // The next name is the one that this one leads to, so this is no `for`.
+        while let Some(k) = next {
+            let j = usize::from(k);
+            let slot = self.slots[j];
+            let entry = slot.entry;
+            if &self.text[entry.from..entry.to] == bytes {
+                return Some(j);
+            }
+            next = slot.before;
         }
-        j = wide(befores[k]);
+        None
     }
-    0
-}
 
-fn wide(word: u16) -> usize
-    ensures { result ≡ word }
-{
-    word as usize
-}
-
-// Enters the name from `from` up to `to` as number n.
-pub fn enter(
-    text: &[u8],
-    froms: &mut [usize],
-    tos: &mut [usize],
-    heads: &mut [u16],
-    befores: &mut [u16],
-    n: usize,
-    from: usize,
-    to: usize,
-)
-    requires from_le_to { (from ≤ to) × (to ≤ length text.now) × (n < length froms.old) × (n < length tos.old) × (n < length befores.old) × (n < 65535) }
-    requires entered { Entered text.now froms.old tos.old heads.old befores.old n }
-    ensures entered_2 { Entered text.now froms.new tos.new heads.new befores.new (n + 1) }
-    ensures froms_after { (froms.new ≡ set froms.old n from) × (tos.new ≡ set tos.old n to) }
-{
-    let h = hash(text, from, to);
-    befores[n] = heads[h];
-    heads[h] = (n + 1) as u16;
-    froms[n] = from;
-    tos[n] = to;
+    // Enters a name after the others.
+    pub fn enter(&mut self, entry: Entry)
+        requires room { length self.old.entries < 4096 }
+        requires forward { entry.from ≤ entry.to }
+        requires inside { entry.to ≤ length self.old.text }
+        ensures { self.new ≡ entered self.old entry }
+    {
+        let h = hash(&self.text[entry.from..entry.to]);
+        self.slots[self.count] = Slot {
+            entry,
+            before: self.heads[h],
+        };
+        self.heads[h] = Some(self.count as u16);
+        self.count += 1;
+    }
 }

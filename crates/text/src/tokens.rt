@@ -1,24 +1,72 @@
 // The token at a place of a text.
-ghost use Rattle.std.specs.Prelude.{◌≡◌, ◌+◌, ◌*◌, ◌-◌, ◌≤◌, ◌<◌, length, get_or, take, drop};
-ghost use Rattle.text_rules.specs.TextTokens.{class_number, class_of, word_byte, digit_byte, longest, numeral};
+ghost use Rattle.std.specs.Prelude.{◌≡◌, ◌+◌, ◌-◌, ◌≤◌, ◌<◌, ◌⊎◌, length, get_or, take, drop, min};
+ghost use Rattle.std.specs.List.{prefix_len};
+ghost use Rattle.text_rules.specs.TextTokens.{space, is_class, letter, zero_digit, digit, underscore, colon, class_of, word_byte, digit_byte, longest, numeral, value};
 ghost use Rattle.text.specs.Scan.{Skipped, DigitsAt, single, Scanned, Next};
 
-use crate::classes::class_of;
+use crate::classes::{Class, class_of, is_digit, is_space, is_word};
 
-// A kind's number, the token's bytes from `from` up to `to`, and the value of a number or a variable.
-#[derive(Clone, Copy)]
+// A number and a variable have their value: an arity is at most 15, a variable at most 1,023.
+#[derive(Clone, Copy, Debug, PartialEq, Eq)]
+pub enum Kind {
+    Invalid,
+    Ending,
+    Name,
+    Number(u16),
+    Variable(u16),
+    Implies,
+    Slash,
+    Dot,
+    Opening,
+    Closing,
+    Comma,
+    Tilde,
+}
+
+// The token's bytes are those from `from` up to `to`.
+#[derive(Clone, Copy, Debug, PartialEq, Eq)]
 pub struct Token {
-    pub kind: u8,
+    pub kind: Kind,
     pub from: usize,
+    pub to: usize,
+}
+
+// Where a number ends, and its value where it is below 65,535.
+#[derive(Clone, Copy, Debug, PartialEq, Eq)]
+pub struct Numeral {
     pub to: usize,
     pub value: u16,
 }
 
-// Where a number ends, and its value where it is at most 1,023.
-#[derive(Drop)]
-pub struct Numeral {
-    pub to: usize,
-    pub value: u16,
+// The bytes of spacing in front. With the test as a closure these three chains would be one function, with a longer clause than all of them.
+fn spaces(bytes: &[u8]) -> usize
+    ensures { result ≡ prefix_len (is_class space) bytes.now }
+{
+    bytes.iter().take_while(|b| is_space(**b)).count()
+}
+
+// The letters and digits in front, at most 15 of them.
+fn words(bytes: &[u8]) -> usize
+    ensures { result ≡ prefix_len word_byte (take 15 bytes.now) }
+{
+    bytes.iter().take(15).take_while(|b| is_word(**b)).count()
+}
+
+// The digits in front.
+fn digits(bytes: &[u8]) -> usize
+    ensures { result ≡ prefix_len digit_byte bytes.now }
+{
+    bytes.iter().take_while(|b| is_digit(**b)).count()
+}
+
+// The value of digits, or 65,535 where it is more.
+fn decimal(digits: &[u8]) -> u16
+    ensures { result ≡ min 65535 (value 0 digits.now) }
+{
+    digits.iter().fold(0u16, |n, b| {
+        n.saturating_mul(10)
+            .saturating_add(u16::from(b.saturating_sub(b'0')))
+    })
 }
 
 // The first place from `at` on that is no spacing.
@@ -26,14 +74,7 @@ fn skip_spaces(text: &[u8], at: usize) -> usize
     requires { at ≤ length text.now }
     ensures { Skipped text.now at result }
 {
-    let mut i = at;
-    while i < text.len() {
-        if class_of(text[i]) != 1 {
-            return i;
-        }
-        i += 1;
-    }
-    i
+    at + spaces(&text[at..])
 }
 
 // The end of the letters and digits from `from` on, at most 15 of them.
@@ -41,32 +82,7 @@ fn name_end(text: &[u8], from: usize) -> usize
     requires { from ≤ length text.now }
     ensures { (from ≤ result) × (result ≤ length text.now) × (result - from ≡ length (take 15 (longest word_byte (drop from text.now)))) }
 {
-    let mut i = from;
-    while i < text.len() {
-        if i - from == 15 {
-            return i;
-        }
-        let class = class_of(text[i]);
-        if class < 2 {
-            return i;
-        }
-        if 4 < class {
-            return i;
-        }
-        i += 1;
-    }
-    i
-}
-
-// A digit after a number; a number over 1,023 stays as it is.
-fn shifted(value: u16, b: u8) -> u16
-    requires { (48 ≤ b) × (b ≤ 57) × (value ≤ 10239) }
-    ensures { (result ≤ 10239) × (value ≤ 1023 → result ≡ 10 * value + (b - 48)) × (1024 ≤ value → result ≡ value) }
-{
-    if value <= 1023 {
-        return 10 * value + (b - 48) as u16;
-    }
-    value
+    from + words(&text[from..])
 }
 
 // The digits from `from` on.
@@ -74,21 +90,11 @@ fn digits_at(text: &[u8], from: usize) -> Numeral
     requires { from ≤ length text.now }
     ensures { DigitsAt text.now from (longest digit_byte (drop from text.now)) result }
 {
-    let mut i = from;
-    let mut value: u16 = 0;
-    while i < text.len() {
-        let b = text[i];
-        let class = class_of(b);
-        if class < 3 {
-            return Numeral { to: i, value };
-        }
-        if 4 < class {
-            return Numeral { to: i, value };
-        }
-        value = shifted(value, b);
-        i += 1;
+    let to = from + digits(&text[from..]);
+    Numeral {
+        to,
+        value: decimal(&text[from..to]),
     }
-    Numeral { to: i, value }
 }
 
 // The number at `from`, without leading zeros; none where no digit stands there.
@@ -96,10 +102,7 @@ fn number_at(text: &[u8], from: usize) -> Numeral
     requires { from ≤ length text.now }
     ensures { DigitsAt text.now from (numeral (drop from text.now)) result }
 {
-    if text.len() <= from {
-        return Numeral { to: from, value: 0 };
-    }
-    if class_of(text[from]) == 3 {
+    if text[from..].starts_with(b"0") {
         return Numeral {
             to: from + 1,
             value: 0,
@@ -108,94 +111,84 @@ fn number_at(text: &[u8], from: usize) -> Numeral
     digits_at(text, from)
 }
 
-// A token of one byte, or none.
-fn one_byte(kind: u8, from: usize) -> Token
-    requires { from < 18446744073709551615 }
+// A token of one byte.
+fn one_byte(kind: Kind, from: usize) -> Token
+    requires { from < usize.MAX }
     ensures { result ≡ single kind from }
 {
     Token {
         kind,
         from,
         to: from + 1,
-        value: 0,
     }
 }
 
 fn name_token(text: &[u8], from: usize) -> Token
-    requires { (from < length text.now) × (class_number (class_of (get_or text.now from 0)) ≡ 2) }
+    requires { (from < length text.now) × (class_of (get_or text.now from 0) ≡ letter) }
     ensures { Scanned text.now from result }
 {
-    let to = name_end(text, from + 1);
     Token {
-        kind: 2,
+        kind: Kind::Name,
         from,
-        to,
-        value: 0,
+        to: name_end(text, from + 1),
     }
 }
 
 fn number_token(text: &[u8], from: usize) -> Token
-    requires { (from < length text.now) × (3 ≤ class_number (class_of (get_or text.now from 0))) × (class_number (class_of (get_or text.now from 0)) ≤ 4) }
+    requires { (from < length text.now) × ((class_of (get_or text.now from 0) ≡ zero_digit) ⊎ (class_of (get_or text.now from 0) ≡ digit)) }
     ensures { Scanned text.now from result }
 {
     let n = number_at(text, from);
+    let to = n.to;
     if n.value <= 15 {
         return Token {
-            kind: 3,
+            kind: Kind::Number(n.value),
             from,
-            to: n.to,
-            value: n.value,
+            to,
         };
     }
     Token {
-        kind: 0,
+        kind: Kind::Invalid,
         from,
-        to: n.to,
-        value: 0,
+        to,
     }
 }
 
 fn variable_token(text: &[u8], from: usize) -> Token
-    requires { (from < length text.now) × (class_number (class_of (get_or text.now from 0)) ≡ 5) }
+    requires { (from < length text.now) × (class_of (get_or text.now from 0) ≡ underscore) }
     ensures { Scanned text.now from result }
 {
     let n = number_at(text, from + 1);
-    if n.to == from + 1 {
-        return one_byte(0, from);
+    let to = n.to;
+    if to == from + 1 {
+        return one_byte(Kind::Invalid, from);
     }
     if n.value <= 1023 {
         return Token {
-            kind: 4,
+            kind: Kind::Variable(n.value),
             from,
-            to: n.to,
-            value: n.value,
+            to,
         };
     }
     Token {
-        kind: 0,
+        kind: Kind::Invalid,
         from,
-        to: n.to,
-        value: 0,
+        to,
     }
 }
 
 fn implies_token(text: &[u8], from: usize) -> Token
-    requires { (from < length text.now) × (class_number (class_of (get_or text.now from 0)) ≡ 6) }
+    requires { (from < length text.now) × (class_of (get_or text.now from 0) ≡ colon) }
     ensures { Scanned text.now from result }
 {
-    let second = from + 1;
-    if text.len() <= second {
-        return one_byte(0, from);
-    }
-    if class_of(text[second]) == 7 {
+    if text[from + 1..].starts_with(b"-") {
         return Token {
-            kind: 5,
+            kind: Kind::Implies,
             from,
             to: from + 2,
-            value: 0,
         };
     }
-    one_byte(0, from)
+    one_byte(Kind::Invalid, from)
 }
 
 // The token that begins at `from`, which is no spacing.
@@ -203,29 +196,17 @@ fn token_at(text: &[u8], from: usize) -> Token
     requires { from < length text.now }
     ensures { Scanned text.now from result }
 {
-    let class = class_of(text[from]);
-    if 16 <= class {
-        return one_byte(class - 16, from);
+    match class_of(text[from]) {
+        Class::Letter => name_token(text, from),
+        Class::Zero | Class::Digit => number_token(text, from),
+        Class::Underscore => variable_token(text, from),
+        Class::Colon => implies_token(text, from),
+        Class::Mark(kind) => one_byte(kind, from),
+        Class::Unknown | Class::Space | Class::Minus => one_byte(Kind::Invalid, from),
     }
-    if class == 2 {
-        return name_token(text, from);
-    }
-    if class == 3 {
-        return number_token(text, from);
-    }
-    if class == 4 {
-        return number_token(text, from);
-    }
-    if class == 5 {
-        return variable_token(text, from);
-    }
-    if class == 6 {
-        return implies_token(text, from);
-    }
-    one_byte(0, from)
 }
 
-// The next token from `at` on; of kind 1 at the end of the text.
+// The next token from `at` on.
 pub fn next_token(text: &[u8], at: usize) -> Token
     requires { at ≤ length text.now }
     ensures { Next text.now at result }
@@ -235,9 +216,8 @@ pub fn next_token(text: &[u8], at: usize) -> Token
         return token_at(text, from);
     }
     Token {
-        kind: 1,
+        kind: Kind::Ending,
         from,
         to: from,
-        value: 0,
     }
 }

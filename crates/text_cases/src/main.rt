@@ -5,9 +5,7 @@
 // Numbers are three bytes, low byte first.
 #![tactic(auto)]
 
-ghost use Rattle.bytes_io.specs.Prefix.{IsPrefixLen};
-
-use bytes_io::{count, read_full};
+use case_file::{input, number, title};
 use std::io::Read;
 use std::{fs, io};
 
@@ -19,22 +17,22 @@ fn main(rt: HostRuntime) -> io::Result<()> {
     }
 }
 
-fn cases(rt: &impl Print, file: &mut impl Read) -> io::Result<()> {
-    for _ in 0..number(file) {
+fn cases<F: Read>(rt: &impl Print, file: &mut F) -> io::Result<()> {
+    for _ in 0..number::<F, 3>(file) {
         case(rt, file)?;
     }
     Ok(())
 }
 
-fn case(rt: &impl Print, file: &mut impl Read) -> io::Result<()> {
-    let mut bytes = [32u8; 262146];
-    title(rt, file)?;
-    let asked = number(file);
-    let n = input(file, &mut bytes);
-    if asked == 0 {
-        read(rt, &bytes[..n])
-    } else {
-        write(rt, asked == 1, &bytes[..n])
+fn case<F: Read>(rt: &impl Print, file: &mut F) -> io::Result<()> {
+    let mut room = [32u8; 262146];
+    title::<F, 3>(rt, file)?;
+    let asked = number::<F, 3>(file);
+    let bytes = input::<F, 3>(file, &mut room);
+    match asked {
+        0 => read(rt, bytes),
+        1 => write(rt, Some(bytes)),
+        _ => write(rt, None),
     }
 }
 
@@ -44,43 +42,8 @@ fn read(rt: &impl Print, text: &[u8]) -> io::Result<()> {
     rt.write_all(&out[..n])
 }
 
-fn write(rt: &impl Print, present: bool, deck: &[u8]) -> io::Result<()> {
+fn write(rt: &impl Print, deck: Option<&[u8]>) -> io::Result<()> {
     let mut out = [0u8; 262144];
-    let n = text_program::write_printed(present, deck, &mut out);
+    let n = text_program::write_printed(deck, &mut out);
     rt.write_all(&out[..n])
-}
-
-fn title(rt: &impl Print, file: &mut impl Read) -> io::Result<()> {
-    let mut line = [0u8; 100];
-    let n = given(file, &mut line);
-    rt.write_all(&line[..n])
-}
-
-// Reads an input to the start of `bytes`, which are spaces. Returns its length.
-fn input(file: &mut impl Read, bytes: &mut [u8]) -> usize
-    ensures { IsPrefixLen result bytes.new }
-{
-    let length = number(file) as usize;
-    given(file, bytes);
-    count(length, bytes)
-}
-
-// Reads a length and so many bytes. Returns the length.
-fn given(file: &mut impl Read, bytes: &mut [u8]) -> usize
-    ensures { IsPrefixLen result bytes.new }
-{
-    let length = number(file) as usize;
-    let n = count(length, bytes);
-    read_full(file, &mut bytes[..n]);
-    count(length, bytes)
-}
-
-fn number(file: &mut impl Read) -> u32 {
-    let mut bytes = [0u8; 3];
-    read_full(file, &mut bytes);
-    joined(bytes[0], bytes[1], bytes[2])
-}
-
-fn joined(low: u8, middle: u8, high: u8) -> u32 {
-    low as u32 + 256 * (middle as u32) + 65536 * (high as u32)
 }

@@ -14,7 +14,8 @@ use Rattle.rules.specs.Program.{bytes_from}
 use Rattle.text_rules.specs.TextProgram.{place_line, read_prints, read_program}
 use Rattle.deck.specs.declared.Refusal.{Refusal as Why}
 use Rattle.deck.specs.Answers.{refusal_for}
-use Rattle.reading.specs.declared.Read.TheVariants.{Words, Unreadable, Refused}
+use Rattle.std.specs.Prelude.{Ok, Err}
+use Rattle.reading.specs.declared.ReadError.TheVariants.{Unreadable, Refused}
 use Rattle.reading.specs.Reads.{count_of, DidRead}
 
 -- A place stands in the text.
@@ -39,30 +40,30 @@ front : (ws rest after : List ℕ) (n : ℕ) → after ≡ ws ++ rest → n ≡ 
 front ws rest after n e f = (omega (arith, ap length e, length-append ws rest), rw (e, f) (take-append_seam ws rest))
 
 module _ (text : List ℕ) where
-  pub long-text : 262144 < length text → read_program text ≡ listing (refused no_room)
+  pub read_program-long : 262144 < length text → read_program text ≡ listing (refused no_room)
   unfolding read_program
-  long-text h = rw (lt-leb (length text) 262144 h, read_program)
+  read_program-long h = rw (lt-leb (length text) 262144 h, read_program)
 
   module _ (before after : List ℕ) (room : length before ≡ 16384) (h : length text ≤ 262144) where
     prints : (o : Option ℕ) (x : Checked (List ℕ)) → o ≡ bad_place text → read_text text (length before) ≡ x → read_program text ≡ read_prints o x
     unfolding read_program
     prints o x e f = rw (le-leb (length text) 262144 h, read_program) (rw (e, ← f, room) refl)
 
-    pub prints-place : (place : ℕ) → DidRead text before (Unreadable place) after → read_program text ≡ place_line place
+    pub read_program-place : (place : ℕ) → DidRead text before (Err (Unreadable place)) after → read_program text ≡ place_line place
     unfolding read_prints
-    prints-place place d = prints (some place) (read_text text (length before)) d.place refl
+    read_program-place place d = prints (some place) (read_text text (length before)) d.place refl
 
-    pub place-small : (place : ℕ) → DidRead text before (Unreadable place) after → place ≤ 262144
+    pub place-small : (place : ℕ) → DidRead text before (Err (Unreadable place)) after → place ≤ 262144
     unfolding bad_place
     place-small place d = omega (arith, place-within text (bad_left text) place d.place)
 
-    pub prints-refusal : (why : Why) → DidRead text before (Refused why) after → read_program text ≡ listing (refused (refusal_for why))
+    pub read_program-refusal : (why : Why) → DidRead text before (Err (Refused why)) after → read_program text ≡ listing (refused (refusal_for why))
     unfolding read_prints
-    prints-refusal why d =
+    read_program-refusal why d =
         prints none (refused (refusal_for why)) d.place (count-refused (read_text text (length before)) (refusal_for why) d.returns)
 
     -- The words that were read stand at the start of the list.
-    pub words-stand : (n : ℕ) → DidRead text before (Words n) after → (n ≤ length after) × (read_program text ≡ bytes_from (take n after))
+    pub words-stand : (n : ℕ) → DidRead text before (Ok n) after → (n ≤ length after) × (read_program text ≡ bytes_from (take n after))
     unfolding read_prints
     words-stand n d =
         let w = count-accepted (read_text text (length before)) n d.returns in

@@ -1,28 +1,24 @@
 -- What the writing program prints, answer by answer.
-use Prim.Native.Nat.{ℕ}
-use mathlib.Core.Path.{◌≡◌, refl, ap, sym, ◌∙◌}
-use mathlib.Core.Bool.{Bool, true, false, false≢true}
-use mathlib.Core.List.{List, ◌++◌}
-use native.Mathlib.Omega.{arith}
-use lib.ListN.{length, drop}
-use Rattle.rules.specs.Refusals.{Refusal, bad_header, Checked, refused, accepted, and_then, require, obtain}
-use Rattle.rules.specs.Listing.{listing}
-use Rattle.rules.specs.Program.{words_from, deck_file}
+use Rattle.std.proofs.Common.{◌≡◌, ℕ, List, ◌++◌, length, drop, Result, Ok, Err, refl, ap, sym, ◌∙◌, arith}
+use Rattle.std.proofs.Math.Option.{Option}
+use Rattle.rules.specs.Refusals.{Refusal, Checked, refused, accepted, and_then}
+use Rattle.rules.specs.Program.{deck_file}
 use Rattle.text_rules.specs.Text.{write_text}
-use Rattle.text_rules.specs.TextProgram.{write_run, write_prints, write_program}
-use Rattle.listing.specs.Printed.{file_of, deck_fits, Printed}
-use Rattle.writing.specs.Writes.{bytes_of, text_after, Wrote}
+use Rattle.text_rules.specs.TextProgram.{write_run, write_prints}
+use Rattle.deck.specs.declared.Refusal.{Refusal as Why}
+use Rattle.deck.specs.Answers.{refusal_for}
+use Rattle.listing.specs.Printed.{Printed}
+use Rattle.program_parts.specs.Answers.{Prints}
+use Rattle.writing.specs.Writes.{result_of, bytes_of, text_after, Wrote}
 
 -- The deck file.
-pub file-refused : (present : Bool) (bytes : List ℕ) → deck_fits present bytes ≡ false → write_program (file_of present bytes) ≡ listing (refused bad_header)
-unfolding write_program write_run write_prints deck_file and_then require obtain
-file-refused true bytes e = rw e
-file-refused false bytes e = refl
+pub write_run-unread : (file : Option (List ℕ)) (n : Refusal) → deck_file file ≡ refused n → write_run file ≡ refused n
+unfolding write_run and_then
+write_run-unread file n e = rw e
 
-file-opened : (present : Bool) (bytes : List ℕ) → deck_fits present bytes ≡ true → write_program (file_of present bytes) ≡ write_prints (write_text (words_from bytes) 262144)
-unfolding write_program write_run deck_file and_then require obtain
-file-opened true bytes e = rw e
-file-opened false bytes e = absurd (false≢true e)
+pub write_run-words : (file : Option (List ℕ)) (words : List ℕ) → deck_file file ≡ accepted words → write_run file ≡ write_text words 262144
+unfolding write_run and_then
+write_run-words file words e = rw e
 
 -- The text, or the refusal.
 as-printed :
@@ -39,19 +35,13 @@ unfolding bytes_of
 bytes-accepted (refused m) n e = let z : ◌≡◌ {A = ℕ} 0 1 = cc in absurd (omega arith)
 bytes-accepted (accepted text) n e = let q : n ≡ length text = cc in (text, refl, q)
 
-module _ (present : Bool) (bytes words : List ℕ) (fits : deck_fits present bytes ≡ true) (same : words ≡ words_from bytes) (before after : List ℕ) (room : length before ≡ 262144) where
-  prints : (x : Checked (List ℕ)) → write_text words (length before) ≡ x → write_program (file_of present bytes) ≡ write_prints x
-  prints x e = file-opened present bytes fits ∙ rw (← e, same, room)
-
-  pub prints-refusal : (n : Refusal) → Wrote words before (refused n) after → (write_program (file_of present bytes) ≡ listing (refused n)) × (after ≡ before)
-  unfolding write_prints text_after
-  prints-refusal n w =
-      let e = bytes-refused (write_text words (length before)) n w.returns in
-      (prints (refused n) e, w.leaves ∙ ap (λ x. text_after x before) e)
-
-  pub prints-text : (n : ℕ) → Wrote words before (accepted n) after → Printed (write_program (file_of present bytes)) before n after
-  unfolding write_prints text_after
-  prints-text n w =
-      let t = bytes-accepted (write_text words (length before)) n w.returns in
-      let e = prints (accepted t.0) t.1 in
-      as-printed t.0 n (w.leaves ∙ ap (λ x. text_after x before) t.1) t.2 (sym e)
+-- What is written is printed.
+pub Wrote-prints : (words before : List ℕ) (r : Result ℕ Why) (after : List ℕ) → length before ≡ 262144 → Wrote words before (result_of r) after
+    → Prints write_prints (write_text words 262144) before r after
+unfolding write_prints text_after
+Wrote-prints words before (Ok n) after room w =
+    let t = bytes-accepted (write_text words (length before)) n w.returns in
+    rw (← room, t.1) (as-printed t.0 n (w.leaves ∙ ap (λ x. text_after x before) t.1) t.2 refl)
+Wrote-prints words before (Err why) after room w =
+    let e = bytes-refused (write_text words (length before)) (refusal_for why) w.returns in
+    rw (← room) (e, w.leaves ∙ ap (λ x. text_after x before) e)

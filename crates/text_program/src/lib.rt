@@ -1,15 +1,14 @@
 // The programs over texts as functions on bytes: from the bytes of their input to the bytes that are printed (document 02, U1).
 #![tactic(auto)]
 
-ghost use Rattle.text_rules.specs.TextProgram.{read_program, write_program};
+ghost use Rattle.text_rules.specs.TextProgram.{read_program, write_run, write_prints, write_program};
 ghost use Rattle.listing.specs.Printed.{file_of, Printed};
+ghost use Rattle.program_parts.specs.Answers.{Prints};
 
-use deck::Checked;
-use listing::input::{deck_fits, read_words};
-use listing::output::put_words;
+use deck::Refusal;
 use listing::put_refusal;
-use reading::Read;
-use writing::Written;
+use program_parts::{deck_words, or_refusal};
+use reading::ReadError;
 
 mod output;
 
@@ -18,27 +17,29 @@ pub fn read_printed(text: &[u8], out: &mut [u8; 32768]) -> usize
     ensures { Printed (read_program text.now) out.old result out.new }
 {
     if 262144 < text.len() {
-        return put_refusal(out, 11);
+        return put_refusal(out, u32::from(Refusal::Room));
     }
     let mut words = [0u16; 16384];
     match reading::read_text(text, &mut words) {
-        Read::Words(n) => put_words(out, 0, &words[..n]),
-        Read::Unreadable(place) => output::put_place(out, place),
-        Read::Refused(why) => put_refusal(out, deck::number(Checked::Refused(why))),
+        Ok(n) => output::put_deck(out, &words[..n]),
+        Err(ReadError::Unreadable(place)) => output::put_place(out, place),
+        Err(ReadError::Refused(why)) => put_refusal(out, u32::from(why)),
     }
 }
 
-// The same of a deck file. `present` says that it is there. A text has at most 262,144 bytes.
-pub fn write_printed(present: bool, file: &[u8], out: &mut [u8; 262144]) -> usize
-    ensures { Printed (write_program (file_of present file.now)) out.old result out.new }
+// The same of a deck file, if there is one. A text has at most 262,144 bytes.
+pub fn write_printed(file: Option<&[u8]>, out: &mut [u8; 262144]) -> usize
+    ensures { Printed (write_program (file_of file.entry)) out.old result out.new }
 {
-    if !deck_fits(present, file) {
-        return put_refusal(out, 1);
-    }
-    let mut words = [0u16; 16384];
-    let n = read_words(file, &mut words);
-    match writing::write_text(&words[..n], out) {
-        Written::Refused(why) => put_refusal(out, deck::number(Checked::Refused(why))),
-        Written::Bytes(count) => count,
-    }
+    let printed = written(file, out);
+    or_refusal(printed, out)
+}
+
+// The text, or why there is none.
+fn written(file: Option<&[u8]>, out: &mut [u8; 262144]) -> Result<usize, Refusal>
+    ensures { Prints write_prints (write_run (file_of file.entry)) out.old result out.new }
+{
+    let mut room = [0u16; 16384];
+    let words = deck_words(file, &mut room)?;
+    writing::write_text(words, out)
 }

@@ -1,16 +1,27 @@
-// The line of refusal 10.
-ghost use Rattle.std.specs.Prelude.{◌<◌, ◌≤◌, length};
+// The words of a text, and the line of refusal 10.
+ghost use Rattle.std.specs.Prelude.{◌*◌, ◌<◌, ◌≤◌, length};
+ghost use Rattle.rules.specs.Program.{bytes_from};
 ghost use Rattle.text_rules.specs.TextProgram.{place_line};
 ghost use Rattle.listing.specs.Put.{Put};
 
-use listing::numbers::put_prefixed;
-use listing::text::put;
+use listing::output::Output;
 
-pub fn put_place(out: &mut [u8], place: usize) -> usize
-    requires { (22 ≤ length out.old) × (place < 4294967296) }
-    ensures { Put out.old 0 (place_line place) result out.new }
+// Prints the words, low byte first.
+pub fn put_deck(bytes: &mut [u8], words: &[u16]) -> usize
+    requires { 2 * length words.now ≤ length bytes.old }
+    ensures { Put bytes.old 0 (bytes_from words.now) result bytes.new }
 {
-    let number = put(out, 0, b"refused 10");
-    let digits = put_prefixed(out, number, b' ', place as u32);
-    put(out, digits, b"\n")
+    let mut out = Output::new(bytes);
+    out.put_words(words)
+}
+
+pub fn put_place(bytes: &mut [u8], place: usize) -> usize
+    requires { (22 ≤ length bytes.old) × (place < 4294967296) }
+    ensures { Put bytes.old 0 (place_line place) result bytes.new }
+{
+    let mut out = Output::new(bytes);
+    out.put(b"refused 10");
+    out.put_prefixed(b' ', place as u32);
+    out.put(b"\n");
+    out.at
 }

@@ -116,13 +116,11 @@ module _ {S : List Symbol} {store : List ℕ} {parked held : ℕ} {l : Level} (h
     split-order : t ≡ write_goals (unmarked l.pending) ++ (write_goals l.parked ++ drop (parked + held) t)
     split-order = sym (take-append-drop (parked + held) t) ∙ ap (◌++ drop (parked + held) t) in_order_lem ∙ append_assoc (write_goals (unmarked l.pending)) (write_goals l.parked) (drop (parked + held) t)
 
-    pub pending-written : Written S (take (held - 0) t) (unmarked l.pending)
-    pending-written =
-        let n : length (write_goals (unmarked l.pending)) ≡ held - 0 = omega (arith, pending-length) in
-        record {
-          well_formed = unmarked-formed S l.pending h.pending.well_formed;
-          are = ap (take (held - 0)) split-order ∙ take_at (write_goals (unmarked l.pending)) (write_goals l.parked ++ drop (parked + held) t) (held - 0) n;
-        }
+    pub pending-written : Written S (take held t) (unmarked l.pending)
+    pending-written = record {
+      well_formed = unmarked-formed S l.pending h.pending.well_formed;
+      are = ap (take held) split-order ∙ take_at (write_goals (unmarked l.pending)) (write_goals l.parked ++ drop (parked + held) t) held pending-length;
+    }
 
     pub parked-written : Written S (take (parked + held - held) (drop held t)) l.parked
     parked-written =

@@ -1,5 +1,5 @@
 -- Level 0's run: after any number of steps the evaluation comes to what it comes to from the level that the store and the answer list hold; and how it ends.
-use Prim.Native.Nat.{ℕ, suc, ◌+◌, ◌-◌, ◌≤◌, ◌<◌}
+use Prim.Native.Nat.{ℕ, ◌+◌, ◌-◌, ◌≤◌, ◌<◌}
 use mathlib.Core.Path.{◌≡◌, refl, sym, ◌∙◌, ap, subst}
 use mathlib.Core.List.{List, [], ◌∷◌, ◌++◌, reverse, append-nil}
 use native.Mathlib.Omega.{arith}
@@ -18,16 +18,16 @@ use Rattle.rules.proofs.LevelLaws.{level-empty, level-spent, level-halts, level-
 use Rattle.report.specs.declared.Stop.TheVariants.{Finished, Budget, Answers}
 use Rattle.goals.specs.Store.{Holding, SomeFirst, mark_of}
 use Rattle.levels.specs.Levels.{account_of, paid_one, Stands, Turned}
-use Rattle.top_level.specs.Top.{Stored, Ordered, Topped, Started, started, opening, begun, Lists, Goes, Stops, Bare, Waits, Stepped, Due}
+use Rattle.top_level.specs.Top.{Stored, Ordered, Topped, Started, started, opening, begun, Lists, Goes, Stops, Bare, Waits, Stepped, Follows}
 use Rattle.goals.specs.declared.Mark as declared
 use Rattle.top_level.specs.declared.Counts.{Counts}
 use Rattle.top_level.specs.declared.Progress.{Progress}
 use Rattle.top_level.specs.declared.End.{End}
-use Rattle.top_level.specs.declared.Next.{Next}
-use Rattle.top_level.specs.declared.Next.TheVariants.{On, Ends}
 use Rattle.levels.specs.declared.Account.{Account}
 use Rattle.levels.specs.declared.Turn.{Turn}
-use Rattle.levels.specs.declared.Turn.TheVariants.{Empty, Park, More, Stopped}
+use Rattle.levels.specs.declared.Turn.TheVariants.{Empty, Park, More}
+use Rattle.levels.specs.declared.Halt.{Halt}
+use Rattle.std.specs.Prelude.{Result, Ok, Err}
 use Rattle.goals.proofs.HeldLaws.{pending_words, goals-first, cells-length, FirstOf, first_of, none-held}
 use Rattle.levels.proofs.StepLaws.{bare, within, Pays, next-is, paid}
 use Rattle.levels.proofs.TurnLaws.{bare-paid}
@@ -173,11 +173,11 @@ module _ {s : Started} {answers store : List ℕ} {p : Progress} (r : Goes s ans
         few = r.few;
       }
 
-      by_turn : (t : Turn) → Turned s.deck 32 (drop p.parked store) p.held p.account first.first first.rest part t
+      by_turn : (t : Result Turn Halt) → Turned s.deck 32 (drop p.parked store) p.held p.account first.first first.rest part t
           → Stepped s answers stepped-store p t
       unfolding with_pending unchanged
-      by_turn Empty u = record { goes = unchanged u.1; goal = first.first; others = first.rest; first = first.same; empty = u.0; pays = pays }
-      by_turn (Park m k) u = record {
+      by_turn (Ok Empty) u = record { goes = unchanged u.1; goal = first.first; others = first.rest; first = first.same; empty = u.0; pays = pays }
+      by_turn (Ok (Park m k)) u = record {
         goes = unchanged u.2;
         goal = first.first;
         others = first.rest;
@@ -186,7 +186,7 @@ module _ {s : Started} {answers store : List ℕ} {p : Progress} (r : Goes s ans
         later = u.1;
         same = u.3 (length s.answers) (length s.store) zeroth r.level stands;
       }
-      by_turn (More h k) u = (
+      by_turn (Ok (More h k)) u = (
         u.0,
         record {
           level = with_pending u.2.0 r.level;
@@ -200,7 +200,7 @@ module _ {s : Started} {answers store : List ℕ} {p : Progress} (r : Goes s ans
           few = r.few;
         },
       )
-      by_turn (Stopped why k) u = record {
+      by_turn (Err halt) u = record {
         level = r.level;
         same = r.same ∙ u.2 (length s.answers) (length s.store) zeroth r.level stands;
         stored = kept_back r.stored part back part-long u.1;
@@ -211,7 +211,7 @@ module _ {s : Started} {answers store : List ℕ} {p : Progress} (r : Goes s ans
       }
 
       -- What a step came to, whatever the deck and the first goal.
-      pub stepped : (t : Turn)
+      pub stepped : (t : Result Turn Halt)
           → ((d : Deck) (g : Goal) (gs : List Goal) → open_deck deck_words ≡ accepted d
           → Holding d.symbols (mid_of p.parked (length store - p.parked) store) p.held (g ∷ gs)
           → Turned d 32 (mid_of p.parked (length store - p.parked) store) p.held p.account g gs part t)
@@ -301,31 +301,23 @@ module _ {s : Started} {answers store : List ℕ} {p : Progress} {m : declared.M
         few = r.few;
       }
 
--- How many turns are left at most.
-abbrev pub left : Next → ℕ
-left (On p) = suc p.account.left
-left (Ends e) = 0
+-- Of less than k left, and so of less than m.
+pub follows-within : (s : Started) (k m : ℕ) (answers store : List ℕ) (r : Result Progress End) → k ≤ m → Follows s k answers store r → Follows s m answers store r
+follows-within s k m answers store (Ok p) h u = (omega (arith, u.0), u.1)
+follows-within s k m answers store (Err e) h u = u
 
-module _ (s : Started) (k : ℕ) (answers store : List ℕ) where
-  pub due-less : (r : Next) → Due s k answers store r → left r < suc k
-  due-less (On p) u = omega (arith, u.0)
-  due-less (Ends e) u = omega arith
-
-  pub due-any : (r : Next) → Due s k answers store r → Due s (s.budget + 1) answers store r
-  due-any (On p) u = (omega (arith, u.3.paid), u.1, u.2, u.3)
-  due-any (Ends e) u = u
-
--- The end, with the goals put in order.
-pub topped : (s : Started) {answers store : List ℕ} (e : End) (store' : List ℕ) (c : Counts) (budget : ℕ) → s.budget ≡ budget → Stops s answers store e
+-- The end, with the goals put in order; its steps, and what is left.
+pub topped : (s : Started) {answers store : List ℕ} (e : End) (store' : List ℕ) (c : Counts) (budget steps left : ℕ) → s.budget ≡ budget
+    → steps ≡ e.at.account.steps → left ≡ e.at.account.left → Stops s answers store e
     → ((l : Level) → Stored s.deck.symbols store e.at.parked e.at.held l → Ordered l store' c)
     → Topped s.deck s.answers s.store s.goals s.parked s.budget answers store'
-    (record { stop = e.stop; steps = e.at.account.steps; cost = budget - e.at.account.left; answers = e.at.listed; pending = c.pending; parked = c.parked })
-topped s e store' c budget b h o = record {
+    (record { stop = e.stop; steps = steps; cost = budget - left; answers = e.at.listed; pending = c.pending; parked = c.parked })
+topped s e store' c budget steps left b n k h o = record {
   level = h.level;
   account = account_of e.at.account;
   ends = h.same;
-  steps = refl;
-  cost = omega (arith, b);
+  steps = n;
+  cost = omega (arith, b, k);
   listed = h.lists.listed ∙ ap (λ (n : ℕ). write_goals (unmarked h.level.answers) ++ drop n s.answers) h.lists.words;
   answered = h.lists.counted;
   ordered = o h.level h.stored;

@@ -1,5 +1,5 @@
 -- Level 0 in the store: the parked goals from its start, in order of parking, then the pending goals as a mirror image.
-use Rattle.std.specs.Prelude.{ℕ, ◌+◌, ◌-◌, ◌≤◌, ◌<◌, ◌≡◌, List, [], ◌∷◌, ◌++◌, length, take, drop}
+use Rattle.std.specs.Prelude.{ℕ, ◌+◌, ◌-◌, ◌≤◌, ◌<◌, ◌≡◌, List, [], ◌∷◌, ◌++◌, length, take, drop, Result, Ok, Err}
 use Rattle.std.proofs.Math.Option.{some}
 use Rattle.rules.specs.Syntax.{Symbol, Literal, Deck, Goal}
 use Rattle.rules.specs.Cells.{write_literals}
@@ -16,12 +16,11 @@ use Rattle.goals.specs.declared.Mark as declared
 use Rattle.levels.specs.Levels.{account_of, Later}
 use Rattle.levels.specs.declared.Account.{Account}
 use Rattle.levels.specs.declared.Turn.{Turn}
-use Rattle.levels.specs.declared.Turn.TheVariants.{Empty, Park, More, Stopped}
+use Rattle.levels.specs.declared.Turn.TheVariants.{Empty, Park, More}
+use Rattle.levels.specs.declared.Halt.{Halt}
 use Rattle.top_level.specs.declared.Counts.{Counts}
 use Rattle.top_level.specs.declared.Progress.{Progress}
 use Rattle.top_level.specs.declared.End.{End}
-use Rattle.top_level.specs.declared.Next.{Next}
-use Rattle.top_level.specs.declared.Next.TheVariants.{On, Ends}
 
 pub record Stored (S : List Symbol) (store : List ℕ) (parked held : ℕ) (l : Level) : Type 0 where
   pub inside : parked ≤ length store
@@ -119,6 +118,11 @@ pub record Goes (s : Started) (answers store : List ℕ) (p : Progress) : Type 0
   pub paid : p.account.steps + p.account.left ≤ s.budget
   pub few : p.listed ≤ p.filled
 
+pub record SomeGoes (deck_words answers store : List ℕ) (p : Progress) : Type 0 where
+  pub started : Started
+  pub opens : open_deck deck_words ≡ accepted started.deck
+  pub is : Goes started answers store p
+
 pub record Stops (s : Started) (answers store : List ℕ) (e : End) : Type 0 where
   pub level : Level
   pub same : evaluates s (begun s) (rules.opening s.budget) ≡ ended (stopped (stop_of e.stop)) level (account_of e.at.account)
@@ -160,26 +164,30 @@ pub record Waits (s : Started) (answers store : List ℕ) (p : Progress) (m : de
 abbrev pub moved : Progress → ℕ → Account → Progress
 moved p h b = record { parked = p.parked; held = h; account = b; filled = p.filled; listed = p.listed }
 
--- What a step came to at level 0.
-abbrev pub Stepped : Started → List ℕ → List ℕ → Progress → Turn → Type 0
-Stepped s answers store p Empty = Bare s answers store p
-Stepped s answers store p (Park m b) = Waits s answers store p m b
-Stepped s answers store p (More h b) = (b.left < p.account.left) × Goes s answers store (moved p h b)
-Stepped s answers store p (Stopped why b) = Stops s answers store (record { stop = why; at = moved p p.held b })
+-- The end, where a step halts.
+abbrev pub end_of : Progress → Halt → End
+end_of p halt = record { stop = halt.stop; at = moved p p.held halt.account }
 
-pub record SomeStepped (answers store : List ℕ) (p : Progress) (t : Turn) : Type 0 where
+-- What a step came to at level 0.
+abbrev pub Stepped : Started → List ℕ → List ℕ → Progress → Result Turn Halt → Type 0
+Stepped s answers store p (Ok Empty) = Bare s answers store p
+Stepped s answers store p (Ok (Park m b)) = Waits s answers store p m b
+Stepped s answers store p (Ok (More h b)) = (b.left < p.account.left) × Goes s answers store (moved p h b)
+Stepped s answers store p (Err halt) = Stops s answers store (end_of p halt)
+
+pub record SomeStepped (answers store : List ℕ) (p : Progress) (t : Result Turn Halt) : Type 0 where
   pub started : Started
   pub is : Stepped started answers store p t
 
 -- Level 0 after that, with less than k left.
-abbrev pub Follows : Started → ℕ → List ℕ → List ℕ → Next → Type 0
-Follows s k answers store (On p) = (p.account.left < k) × Goes s answers store p
-Follows s k answers store (Ends e) = Stops s answers store e
+abbrev pub Follows : Started → ℕ → List ℕ → List ℕ → Result Progress End → Type 0
+Follows s k answers store (Ok p) = (p.account.left < k) × Goes s answers store p
+Follows s k answers store (Err e) = Stops s answers store e
 
 -- The same, and where it goes on there is a goal to take a step on, and something is left.
-abbrev pub Due : Started → ℕ → List ℕ → List ℕ → Next → Type 0
-Due s k answers store (On p) = (p.account.left < k) × (0 < p.held) × (0 < p.account.left) × Goes s answers store p
-Due s k answers store (Ends e) = Stops s answers store e
+abbrev pub Due : Started → ℕ → List ℕ → List ℕ → Progress → Result (Unit {0}) End → Type 0
+Due s k answers store p (Ok u) = (p.account.left < k) × (0 < p.held) × (0 < p.account.left) × Goes s answers store p
+Due s k answers store p (Err e) = Stops s answers store e
 
 -- What level 0's run leaves and reports, started with the goals gs pending and ms parked.
 pub record Topped (d : Deck) (answers store : List ℕ) (gs : List Goal) (ms : List Marked) (budget : ℕ) (answers' store' : List ℕ) (r : Report) : Type 0 where

@@ -1,27 +1,26 @@
 -- The arities of names, by a walk over the declarations.
-use Prim.Native.Nat.{ℕ, zero, suc, ◌+◌, ◌-◌, ◌≤◌, ◌<◌}
+use Prim.Native.Nat.{ℕ, zero, suc, ◌-◌, ◌≤◌, ◌<◌}
 use mathlib.Core.Path.{◌≡◌, refl, ap, sym, ◌∙◌}
 use mathlib.Core.Bool.{Bool, true, false}
 use mathlib.Core.Option.{none, some}
 use mathlib.Core.List.{List, [], ◌∷◌}
 use native.Mathlib.Omega.{arith}
-use native.Mathlib.Numerals.{add-one}
 use native.Mathlib.Decide.{dec_lt, ℕ_discrete}
-use lib.ListN.{length, get_or, get_elem?, drop, set, length-set}
-use lib.Seq.{slice, get_or-set_same, get_or-set_other}
-use lib.Dec.{eqb, eqb-zero-suc, eqb-suc-suc}
+use lib.ListN.{length, get_or, get_elem?, take, drop, replicate}
+use Rattle.std.specs.Prelude.{Option, Some, None, MatchOption, IfSome}
 use Rattle.text_rules.specs.TextTokens.{tokens}
 use Rattle.text_rules.specs.TextGrammar.{item, unread, same_bytes}
 use Rattle.text_rules.specs.TextWords.{declarations, number_of, arity, has_arity, declared_at}
 use Rattle.text_rules.specs.TextWords as rules
 use Rattle.text_rules.specs.Text.{text_declarations}
-use Rattle.text.specs.Names.{last_with, is_name}
-use Rattle.text.proofs.NameLaws.{bytes_same, last-below, last-passes}
+use Rattle.text.specs.Hash.{last_with, found_at, is_name}
+use Rattle.text.specs.Names.{Table, name_at}
+use Rattle.text.proofs.NameLaws.{bytes_same, found_none, found_some, last-below, last-passes}
 use Rattle.text.proofs.NumberLaws.{last_none}
 use Rattle.naming.specs.declared.declarations.Declaration.{Declaration}
-use Rattle.naming.specs.Walks.{symbol_of, declaration_of, Declares, Ends}
+use Rattle.naming.specs.Walks.{symbol_of, declaration_of, Declares}
 use Rattle.uses.specs.Uses.{takes}
-use Rattle.uses.specs.Batches.{Distinct, arity_in, Put}
+use Rattle.uses.specs.Batches.{Distinct, arity_in, is_arity, Put, agrees_at, FirstOther}
 
 -- By the arity of a name's first declaration.
 element-at : (all : List rules.Declaration) (at : ℕ) (d : rules.Declaration) (ds : List rules.Declaration) → drop at all ≡ d ∷ ds → (get_elem? all at ≡ some d) × (drop (suc at) all ≡ ds)
@@ -30,72 +29,38 @@ element-at [] (suc at) d ds e = absurd (let z : ◌≡◌ {A = ℕ} 0 1 = cc in 
 element-at (x ∷ all) zero d ds e = (ap (λ (l : List rules.Declaration). get_elem? l 0) e, ap (λ (l : List rules.Declaration). drop 1 l) e)
 element-at (x ∷ all) (suc at) d ds e = element-at all at d ds e
 
-takes-from : (all : List rules.Declaration) (wanted : List ℕ) (k at : ℕ) (ds : List rules.Declaration) → drop at all ≡ ds → has_arity (declared_at all (number_of wanted at ds)) k ≡ eqb (arity_in ds wanted) (suc k)
+takes-from : (all : List rules.Declaration) (wanted : List ℕ) (k at : ℕ) (ds : List rules.Declaration) → drop at all ≡ ds → has_arity (declared_at all (number_of wanted at ds)) k ≡ is_arity (arity_in ds wanted) k
 unfolding has_arity declared_at number_of
-takes-from all wanted k at [] e = sym (eqb-zero-suc k)
+takes-from all wanted k at [] e = refl
 takes-from all wanted k at (d ∷ ds) e = go (same_bytes wanted d.name) refl (takes-from all wanted k (suc at) ds (element-at all at d ds e).1)
   where
     go :
-        (b : Bool) → same_bytes wanted d.name ≡ b → has_arity (declared_at all (number_of wanted (suc at) ds)) k ≡ eqb (arity_in ds wanted) (suc k)
-        → has_arity (declared_at all (number_of wanted at (d ∷ ds))) k ≡ eqb (arity_in (d ∷ ds) wanted) (suc k)
-    go true q r = rw (q, number_of, arity_in) (ap (λ o. has_arity o k) (element-at all at d ds e).0 ∙ sym (eqb-suc-suc (arity d.symbol) k))
+        (b : Bool) → same_bytes wanted d.name ≡ b → has_arity (declared_at all (number_of wanted (suc at) ds)) k ≡ is_arity (arity_in ds wanted) k
+        → has_arity (declared_at all (number_of wanted at (d ∷ ds))) k ≡ is_arity (arity_in (d ∷ ds) wanted) k
+    go true q r = rw (q, number_of, arity_in) (ap (λ o. has_arity o k) (element-at all at d ds e).0)
     go false q r = rw (q, number_of, arity_in) r
 
-pub takes-arity : (ds : List rules.Declaration) (wanted : List ℕ) (k : ℕ) → takes ds wanted k ≡ eqb (arity_in ds wanted) (suc k)
+pub takes-arity : (ds : List rules.Declaration) (wanted : List ℕ) (k : ℕ) → takes ds wanted k ≡ is_arity (arity_in ds wanted) k
 takes-arity ds wanted k = takes-from ds wanted k 0 ds refl
 
-pub less_one : (a k : ℕ) → (a ≡ 0 → ⊥) → eqb (a - 1) k ≡ eqb a (suc k)
-less_one zero k f = absurd (f refl)
-less_one (suc a) k f = let z : suc a - 1 ≡ a = omega arith in ap (λ b. eqb b k) z ∙ sym (eqb-suc-suc a k)
+-- A name that is found has a place.
+pub found_fits : (t : Table) (bytes : List ℕ) (r : Option ℕ) → length t.entries ≤ 4096 → r ≡ found_at (last_with (is_name bytes) (name_at t) (length t.entries)) → IfSome r (λ j. j < 4096)
+found_fits t bytes None l e = tt
+found_fits t bytes (Some j) l e = omega (arith, found_some (last_with (is_name bytes) (name_at t) (length t.entries)) j e, last-below (is_name bytes) (name_at t) (length t.entries))
 
--- An arity put for a name.
-module _ (found : List ℕ) (j arity : ℕ) where
-  abbrev at_name : ℕ → ℕ
-  at_name i = get_or found i 0
-
-  before-one : (i : ℕ) → j ≡ suc i → j - 1 ≡ i
-  before-one i q = omega arith
-
-  pub put-kept : (at_name (j - 1) ≡ 0 → ⊥) → Put found j arity found
-  put-kept f =
-      record {
-        here = λ i q z. absurd (f (ap at_name (before-one i q) ∙ z));
-        old = λ i q g. refl;
-        other = λ i g. refl;
-        size = refl;
-      }
-
-  pub put-new : (j ≡ 0 → ⊥) → j ≤ length found → at_name (j - 1) ≡ 0 → Put found j arity (set found (j - 1) (arity + 1))
-  put-new f l z =
-      record {
-        here =
-            λ i q y.
-            ap (λ k. get_or (set found (j - 1) (arity + 1)) k 0) (sym (before-one i q))
-            ∙ get_or-set_same found (j - 1) (arity + 1) 0 (omega arith)
-            ∙ add-one arity;
-        old = λ i q g. absurd (g (ap at_name (sym (before-one i q)) ∙ z));
-        other = λ i g. get_or-set_other found (j - 1) i (arity + 1) 0 (λ q. g (omega arith));
-        size = length-set found (j - 1) (arity + 1);
-      }
-
--- The names before j agree, and so does j.
-pub agrees-next :
-    (found given : List ℕ) (j : ℕ) → ((i : ℕ) → i < j → eqb (get_or found i 0) (suc (get_or given i 0)) ≡ true) → eqb (get_or found j 0) (suc (get_or given j 0)) ≡ true
-    → (i : ℕ) → i < j + 1 → eqb (get_or found i 0) (suc (get_or given i 0)) ≡ true
-agrees-next found given j h e i l = go (dec_lt i j)
-  where
-    go : Dec (i < j) → eqb (get_or found i 0) (suc (get_or given i 0)) ≡ true
-    go (yes p) = h i p
-    go (no p) = let s : i ≡ j = omega arith in ap (λ k. eqb (get_or found k 0) (suc (get_or given k 0))) s ∙ e
+-- The first name that does not agree.
+pub first-from :
+    (found : List (Option ℕ)) (t : Table) (n : ℕ) (r : Option ℕ) → n ≡ length t.entries
+    → MatchOption r ((i : ℕ) → 0 ≤ i → i < n → agrees_at found t i ≡ true)
+    (λ i. (0 ≤ i) × (i < n) × (agrees_at found t i ≡ false) × ((j : ℕ) → 0 ≤ j → j < i → agrees_at found t j ≡ true))
+    → FirstOther found t r
+first-from found t n None e w = λ i l. w i (omega arith) (omega arith)
+first-from found t n (Some r) e w = (omega (arith, w.1), w.2, λ i l. w.3 i (omega arith) l)
 
 -- What is found so far, or else in the declarations that are left.
-abbrev or_later : ℕ → ℕ → ℕ
-or_later zero later = later
-or_later (suc a) later = suc a
-
-or-none : (a : ℕ) → or_later a 0 ≡ a
-or-none zero = refl
-or-none (suc a) = refl
+abbrev or_later : Option ℕ → Option ℕ → Option ℕ
+or_later None later = later
+or_later (Some a) later = Some a
 
 arity-of : (p : Bool) (k : ℕ) → arity (symbol_of p k) ≡ k
 arity-of true k = refl
@@ -109,83 +74,94 @@ other_name xs ys f = go (same_bytes xs ys) refl
     go false e = e
 
 -- The declarations before `at` are looked up.
-pub record WalkedTo (text : List ℕ) (name : ℕ → List ℕ) (n : ℕ) (found : List ℕ) (at : ℕ) : Type 0 where
-  pub inside : at ≤ length text
-  pub readable : unread item (tokens 0 (drop at text)) ≡ none
-  pub room : n ≤ length found
-  pub same : (j : ℕ) → j < n → arity_in (text_declarations text) (name j) ≡ or_later (get_or found j 0) (arity_in (declarations 0 (tokens 0 (drop at text))) (name j))
+pub record WalkedTo (t : Table) (found : List (Option ℕ)) (at : ℕ) : Type 0 where
+  pub inside : at ≤ length t.text
+  pub readable : unread item (tokens 0 (drop at t.text)) ≡ none
+  pub room : length found ≡ 4096
+  pub same : (j : ℕ) → j < length t.entries → arity_in (text_declarations t.text) (name_at t j) ≡ or_later (get_or found j None) (arity_in (declarations 0 (tokens 0 (drop at t.text))) (name_at t j))
 
-pub walk_start :
-    (text : List ℕ) (name : ℕ → List ℕ) (n : ℕ) (found : List ℕ) → unread item (tokens 0 text) ≡ none → n ≤ length found → ((j : ℕ) → get_or found j 0 ≡ 0)
-    → WalkedTo text name n found 0
+nothing : (n j : ℕ) → get_or (replicate {A = Option ℕ} n None) j None ≡ None
+nothing zero j = refl
+nothing (suc n) zero = refl
+nothing (suc n) (suc j) = nothing n j
+
+pub walk_start : (t : Table) → unread item (tokens 0 t.text) ≡ none → WalkedTo t (replicate 4096 None) 0
 unfolding text_declarations
-walk_start text name n found e l z =
+walk_start t e =
     record {
       inside = omega arith;
       readable = e;
-      room = l;
-      same = λ j p. ap (λ a. or_later a (arity_in (declarations 0 (tokens 0 text)) (name j))) (sym (z j));
+      room = refl;
+      same = λ j p. ap (λ a. or_later a (arity_in (declarations 0 (tokens 0 t.text)) (name_at t j))) (sym (nothing 4096 j));
     }
 
-module _ (text : List ℕ) (name : ℕ → List ℕ) (n : ℕ) (found : List ℕ) (at : ℕ) (W : WalkedTo text name n found at) where
-  pub walk_ends : Ends text at → (j : ℕ) → j < n → get_or found j 0 ≡ arity_in (text_declarations text) (name j)
-  walk_ends h j l =
-      sym (W.same j l ∙ ap (λ ds. or_later (get_or found j 0) (arity_in ds (name j))) h.first ∙ or-none (get_or found j 0))
-
-  module _ (differ : Distinct name n) (d : Declaration) (h : Declares text at d) (r : ℕ) (e : r ≡ last_with (is_name (slice d.from d.to text)) name n) where
+module _ (t : Table) (found : List (Option ℕ)) (at : ℕ) (W : WalkedTo t found at) where
+  module _ (differ : Distinct t) (d : Declaration) (h : Declares t.text at d) (r : Option ℕ)
+      (e : r ≡ found_at (last_with (is_name (take (d.to - d.from) (drop d.from t.text))) (name_at t) (length t.entries))) where
     abbrev this : List ℕ
-    this = slice d.from d.to text
+    this = take (d.to - d.from) (drop d.from t.text)
 
-    pub found_below : r ≤ length found
-    found_below = omega (arith, W.room, last-below (is_name this) name n)
+    abbrev last : ℕ
+    last = last_with (is_name this) (name_at t) (length t.entries)
+
+    pub found_below : (j : ℕ) → r ≡ Some j → j < length t.entries
+    found_below j q = omega (arith, found_some last j (sym q ∙ e), last-below (is_name this) (name_at t) (length t.entries))
 
     -- The name that is found, and no other one, is the declaration's.
-    is-this : (j : ℕ) → r ≡ suc j → same_bytes (name j) this ≡ true
-    is-this j q = last-passes (is_name this) name n j (sym e ∙ q)
+    is-this : (j : ℕ) → r ≡ Some j → same_bytes (name_at t j) this ≡ true
+    is-this j q = last-passes (is_name this) (name_at t) (length t.entries) j (found_some last j (sym q ∙ e))
 
-    is-other : (j : ℕ) → j < n → (r ≡ suc j → ⊥) → same_bytes (name j) this ≡ false
-    is-other j l f = other_name (name j) this (λ s. go r refl s)
+    is-other : (j : ℕ) → j < length t.entries → (r ≡ Some j → ⊥) → same_bytes (name_at t j) this ≡ false
+    is-other j l f = other_name (name_at t j) this (λ s. go r refl s)
       where
-        go : (k : ℕ) → r ≡ k → name j ≡ this → ⊥
-        go zero q s = last_none this name n j (sym e ∙ q) l (sym s)
-        go (suc i) q s = order (dec_lt i j) (dec_lt j i)
+        go : (k : Option ℕ) → r ≡ k → name_at t j ≡ this → ⊥
+        go None q s = last_none this (name_at t) (length t.entries) j (found_none last (sym q ∙ e)) l (sym s)
+        go (Some i) q s = order (dec_lt i j) (dec_lt j i)
           where
-            both : name i ≡ name j
-            both = bytes_same (name i) this (is-this i q) ∙ sym s
+            both : name_at t i ≡ name_at t j
+            both = bytes_same (name_at t i) this (is-this i q) ∙ sym s
 
             order : Dec (i < j) → Dec (j < i) → ⊥
             order (yes p) y = differ i j p l both
-            order (no p) (yes y) = differ j i y (omega (arith, e, q, last-below (is_name this) name n)) (sym both)
-            order (no p) (no y) = let z : i ≡ j = omega arith in f (q ∙ ap suc z)
+            order (no p) (yes y) = differ j i y (found_below i q) (sym both)
+            order (no p) (no y) = let z : i ≡ j = omega arith in f (q ∙ ap Some z)
 
-    module _ (found' : List ℕ) (P : Put found r d.arity found') where
+    module _ (found' : List (Option ℕ)) (size : length found' ≡ 4096) (P : Put found r d.arity found') where
       abbrev rest : List rules.Declaration
-      rest = declarations 0 (tokens 0 (drop d.end text))
+      rest = declarations 0 (tokens 0 (drop d.end t.text))
 
-      step : (j : ℕ) → j < n → or_later (get_or found j 0) (arity_in (declaration_of text d ∷ rest) (name j)) ≡ or_later (get_or found' j 0) (arity_in rest (name j))
-      step j l = go (ℕ_discrete r (suc j))
+      abbrev first : rules.Declaration
+      first = declaration_of t.text d
+
+      named : first.name ≡ this
+      named = refl
+
+      step : (j : ℕ) → j < length t.entries → or_later (get_or found j None) (arity_in (first ∷ rest) (name_at t j)) ≡ or_later (get_or found' j None) (arity_in rest (name_at t j))
+      step j l = go (is? r)
         where
-          here : r ≡ suc j → arity_in (declaration_of text d ∷ rest) (name j) ≡ suc d.arity
-          here q = let s = is-this j q in rw (s, arity_in) (ap suc (arity-of d.predicate d.arity))
+          here : r ≡ Some j → arity_in (first ∷ rest) (name_at t j) ≡ Some d.arity
+          here q = let s : same_bytes (name_at t j) first.name ≡ true = ap (same_bytes (name_at t j)) named ∙ is-this j q in rw (s, arity_in) (ap Some (arity-of d.predicate d.arity))
 
-          first : r ≡ suc j → (a : ℕ) → get_or found j 0 ≡ a → or_later (get_or found j 0) (suc d.arity) ≡ or_later (get_or found' j 0) (arity_in rest (name j))
-          first q zero z =
-              ap (λ a. or_later a (suc d.arity)) z ∙ sym (ap (λ a. or_later a (arity_in rest (name j))) (P.here j q z))
-          first q (suc a) z =
-              ap (λ a. or_later a (suc d.arity)) z ∙ sym (ap (λ a. or_later a (arity_in rest (name j))) (P.old j q (λ y. omega arith) ∙ z))
+          kept : r ≡ Some j → (a : Option ℕ) → get_or found j None ≡ a → or_later (get_or found j None) (Some d.arity) ≡ or_later (get_or found' j None) (arity_in rest (name_at t j))
+          kept q None z = ap (λ a. or_later a (Some d.arity)) z ∙ sym (ap (λ a. or_later a (arity_in rest (name_at t j))) (P.here j q z))
+          kept q (Some a) z = ap (λ a. or_later a (Some d.arity)) z ∙ sym (ap (λ a. or_later a (arity_in rest (name_at t j))) (P.old j a q z))
 
-          go : Dec (r ≡ suc j) → or_later (get_or found j 0) (arity_in (declaration_of text d ∷ rest) (name j)) ≡ or_later (get_or found' j 0) (arity_in rest (name j))
-          go (yes q) = ap (or_later (get_or found j 0)) (here q) ∙ first q (get_or found j 0) refl
+          is? : (o : Option ℕ) → Dec (o ≡ Some j)
+          is? None = no (λ q. cc)
+          is? (Some i) = elim (ℕ_discrete i j) [ yes q ↦ yes (ap Some q) | no f ↦ no (λ q. f (cc)) ]
+
+          go : Dec (r ≡ Some j) → or_later (get_or found j None) (arity_in (first ∷ rest) (name_at t j)) ≡ or_later (get_or found' j None) (arity_in rest (name_at t j))
+          go (yes q) = ap (or_later (get_or found j None)) (here q) ∙ kept q (get_or found j None) refl
           go (no f) =
-              let s = is-other j l f in
-              let passed : arity_in (declaration_of text d ∷ rest) (name j) ≡ arity_in rest (name j) = rw (s, arity_in) refl in
-              ap (or_later (get_or found j 0)) passed ∙ sym (ap (λ a. or_later a (arity_in rest (name j))) (P.other j f))
+              let s : same_bytes (name_at t j) first.name ≡ false = ap (same_bytes (name_at t j)) named ∙ is-other j l f in
+              let passed : arity_in (first ∷ rest) (name_at t j) ≡ arity_in rest (name_at t j) = rw (s, arity_in) refl in
+              ap (or_later (get_or found j None)) passed ∙ sym (ap (λ a. or_later a (arity_in rest (name_at t j))) (P.other j f))
 
-      pub walk-on : WalkedTo text name n found' d.end
+      pub walk-on : WalkedTo t found' d.end
       walk-on =
           record {
             inside = h.inside;
             readable = h.readable;
-            room = omega (arith, W.room, P.size);
-            same = λ j l. W.same j l ∙ ap (λ ds. or_later (get_or found j 0) (arity_in ds (name j))) h.first ∙ step j l;
+            room = size;
+            same = λ j l. W.same j l ∙ ap (λ ds. or_later (get_or found j None) (arity_in ds (name_at t j))) h.first ∙ step j l;
           }

@@ -1,30 +1,31 @@
 -- Names one after the other.
-use Prim.Native.Nat.{ℕ, zero, suc, ◌+◌, ◌-◌, ◌≤◌, ◌<◌}
-use mathlib.Core.Path.{◌≡◌, refl, ap, ap₂, sym, ◌∙◌}
+use Prim.Native.Nat.{ℕ, suc, ◌+◌, ◌-◌, ◌≤◌, ◌<◌}
+use mathlib.Core.Path.{◌≡◌, refl, ap, sym, ◌∙◌}
 use mathlib.Core.Bool.{Bool, true, false}
 use mathlib.Core.Option.{Option, none, some}
 use mathlib.Core.List.{List, [], ◌∷◌}
 use native.Mathlib.Omega.{arith}
-use native.Mathlib.Decide.{ℕ_discrete}
-use lib.ListN.{length, get_or, take, drop}
-use lib.Seq.{slice, take-nil}
-use borrow.Author.Tests.{eq-eqb, ne_eqb}
-use Rattle.text_rules.specs.TextTokens.{Kind, name, variable, dot, tilde, kind_number, Token, tokens}
+use lib.ListN.{length, get_or, drop}
+use Rattle.text_rules.specs.TextTokens.{Kind, name, variable, dot, tilde, opening, Token, tokens}
 use Rattle.text_rules.specs.TextGrammar.{is, same_kind}
 use Rattle.text_rules.specs.TextWords.{Declaration, commas, given_arguments, Use, Entry, entry_after, entries, well_used, misused, clause_tokens}
 use Rattle.text_rules.specs.Text.{place_of, text_declarations, text_entries}
+use Rattle.text.specs.declared.tokens.Kind.{Kind as Scanned_kind}
+use Rattle.text.specs.declared.tokens.Kind.TheVariants.{Name, Ending, Opening}
 use Rattle.text.specs.declared.tokens.Token.{Token as Scanned}
-use Rattle.text.specs.Scan.{Next}
+use Rattle.text.specs.Kinds.{kind_of}
+use Rattle.text.specs.Scan.{tokens_from, Next}
 use Rattle.text.proofs.ReadLaws.{token_of}
-use Rattle.uses.specs.Brackets.{in_brackets, Given}
+use Rattle.text.proofs.TokenLaws.{not-ending}
+use Rattle.uses.specs.Pairs.{in_brackets, Given}
 use Rattle.uses.specs.Uses.{takes, fits, first_misuse, misuse_from, GivenAt}
-use Rattle.uses.proofs.BracketLaws.{true-false, brackets-opening, brackets-other, drop-front}
-use Rattle.uses.proofs.CountingLaws.{token-last, token-more}
+use Rattle.uses.proofs.BracketLaws.{drop-front}
+use Rattle.uses.proofs.CommaLaws.{same_as, brackets-opening, brackets-other}
 
 -- The rules' first misused name, token by token.
 module _ (ds : List Declaration) (t : Token) (ts : List Token) where
   abbrev fine : Bool
-  fine = fits ds (kind_number t.kind) t.bytes ts
+  fine = fits ds t.kind t.bytes ts
 
   misuse-goes : fine ≡ true → first_misuse ds (t ∷ ts) ≡ first_misuse ds ts
   unfolding first_misuse
@@ -61,72 +62,64 @@ misused-first ds before (t ∷ ts) = go (is name t) refl (is variable t) refl (m
     go false p true q r = rw (p, q, entries, first_misuse) r
     go false p false q r = rw (p, q, entries, first_misuse) r
 
-pub fits-other : (ds : List Declaration) (kind : ℕ) (bs : List ℕ) (ts : List Token) → (kind ≡ 2 → ⊥) → fits ds kind bs ts ≡ true
-fits-other ds kind bs ts f = rw (ne_eqb 2 kind (λ q. f (sym q)), fits)
+-- A kind of the code that is not a kind of the rules.
+not-name : (k : Scanned_kind) → (k ≡ Name → ⊥) → same_kind name (kind_of k) ≡ false
+not-name k f = grind (arith, f)
 
-pub fits-name : (ds : List Declaration) (kind : ℕ) (bs : List ℕ) (ts : List Token) → kind ≡ 2 → fits ds kind bs ts ≡ takes ds bs (given_arguments ts)
-fits-name ds kind bs ts e = rw (eq-eqb 2 kind (sym e), fits) refl
+not-opening : (k : Scanned_kind) → (k ≡ Opening → ⊥) → same_kind opening (kind_of k) ≡ false
+not-opening k f = grind (arith, f)
 
--- The bytes of a token.
-pub slice-part : (from to : ℕ) (text : List ℕ) → slice from to text ≡ take (to - from) (drop from text)
-slice-part zero to text = let z : to - 0 ≡ to = omega arith in rw z refl
-slice-part (suc from) zero text = let z : 0 - suc from ≡ 0 = omega arith in rw z refl
-slice-part (suc from) (suc to) [] = let z : suc to - suc from ≡ to - from = omega arith in rw z (sym (take-nil (to - from)))
-slice-part (suc from) (suc to) (b ∷ text) = let z : suc to - suc from ≡ to - from = omega arith in rw z (slice-part from to text)
+pub fits-other : (ds : List Declaration) (kind : Scanned_kind) (bs : List ℕ) (ts : List Token) → (kind ≡ Name → ⊥) → fits ds (kind_of kind) bs ts ≡ true
+fits-other ds kind bs ts f = rw (not-name kind f, fits) refl
 
--- The arguments of a name, by the token after it.
+pub fits-name : (ds : List Declaration) (kind : Scanned_kind) (bs : List ℕ) (ts : List Token) → kind ≡ Name → fits ds (kind_of kind) bs ts ≡ takes ds bs (given_arguments ts)
+fits-name ds kind bs ts e = ap (λ k. fits ds (kind_of k) bs ts) e
+
+-- The next token, at the end of the text and before it.
 module _ (text : List ℕ) (at : ℕ) (r : Scanned) (n : Next text at r) where
-  pub some-arguments : (given : List ℕ) (i : ℕ) → GivenAt given i (tokens 0 (drop at text)) → r.kind ≡ 8 → get_or given i 0 ≡ given_arguments (tokens 0 (drop at text))
-  unfolding given_arguments
-  some-arguments given i g e =
-      let this = token_of text r n.sort in
-      let ts : List Token = tokens 0 (drop r.to text) in
-      let all = token-more text at r n (λ q. omega arith) in
-      let same : given_arguments (this ∷ ts) ≡ suc (commas 0 ts) = rw (eq-eqb 8 (kind_number n.sort) (sym e ∙ sym n.kind), given_arguments) refl in
-      g (suc (commas 0 ts)) (in_brackets ts) (ap in_brackets all ∙ brackets-opening this ts (n.kind ∙ e)) ∙ sym (ap given_arguments all ∙ same)
-
--- One token, and the first misuse from it on.
-module _ (text : List ℕ) (at : ℕ) (r : Scanned) (n : Next text at r) where
-  abbrev ds : List Declaration
-  ds = text_declarations text
-
   abbrev this : Token
-  this = token_of text r n.sort
+  this = token_of text r
 
   abbrev after : List Token
   after = tokens 0 (drop r.to text)
 
-  abbrev ok : Bool
-  ok = fits ds r.kind (slice r.from r.to text) after
+  token-last : r.kind ≡ Ending → tokens 0 (drop at text) ≡ this ∷ []
+  token-last e = n.scanned ∙ ap (λ k. this ∷ tokens_from k text r.to) e
 
-  -- The test of the rules is that of the code.
-  fine-here : (b : Bool) → ok ≡ b → fits ds (kind_number n.sort) this.bytes after ≡ b
-  fine-here b e = ap₂ (λ k (bs : List ℕ). fits ds k bs after) n.kind (sym (slice-part r.from r.to text)) ∙ e
+  token-more : (r.kind ≡ Ending → ⊥) → tokens 0 (drop at text) ≡ this ∷ after
+  token-more f = n.scanned ∙ ap (this ∷◌) (not-ending r.kind text r.to f)
+
+  -- The arguments of a name, by the token after it.
+  pub some-arguments : (given : List ℕ) (i : ℕ) → GivenAt given i (tokens 0 (drop at text)) → r.kind ≡ Opening → get_or given i 0 ≡ given_arguments (tokens 0 (drop at text))
+  unfolding given_arguments
+  some-arguments given i g e =
+      let all = token-more (λ q. cc) in
+      let k : this.kind ≡ opening = ap kind_of e in
+      let o : is opening this ≡ true = same_as this opening k opening in
+      let same : given_arguments (this ∷ after) ≡ suc (commas 0 after) = rw (o, given_arguments) refl in
+      g (suc (commas 0 after)) (in_brackets after) (ap in_brackets all ∙ brackets-opening this after k) ∙ sym (ap given_arguments all ∙ same)
+
+  -- One token, and the first misuse from it on.
+  abbrev ds : List Declaration
+  ds = text_declarations text
+
+  abbrev ok : Bool
+  ok = fits ds (kind_of r.kind) this.bytes after
 
   pub token-stops : ok ≡ false → place_of text (misuse_from text at) ≡ some r.from
   unfolding place_of
-  token-stops e = go (ℕ_discrete r.kind 1)
-    where
-      back : length text - (length text - r.from) ≡ r.from
-      back = omega (arith, n.forward, n.inside)
+  token-stops e =
+      let back : length text - (length text - r.from) ≡ r.from = omega (arith, n.forward, n.inside) in
+      let f : r.kind ≡ Ending → ⊥ = λ q. let z = ap (λ k. fits ds (kind_of k) this.bytes after) q in cc in
+      ap (place_of text) (ap (first_misuse ds) (token-more f) ∙ misuse-stops ds this after e) ∙ ap some back
 
-      go : Dec (r.kind ≡ 1) → place_of text (misuse_from text at) ≡ some r.from
-      go (yes q) = absurd (true-false (sym e ∙ fits-other ds r.kind (slice r.from r.to text) after (λ z. omega arith)))
-      go (no q) =
-          ap (place_of text) (ap (first_misuse ds) (token-more text at r n q) ∙ misuse-stops ds this after (fine-here false e)) ∙ ap some back
-
-  pub token-done : r.kind ≡ 1 → misuse_from text at ≡ none
+  pub token-done : r.kind ≡ Ending → misuse_from text at ≡ none
   unfolding first_misuse
-  token-done e =
-      ap (first_misuse ds) (token-last text at r n e)
-      ∙ misuse-goes ds this [] (fits-other ds (kind_number n.sort) this.bytes [] (λ q. omega (arith, n.kind)))
+  token-done e = ap (first_misuse ds) (token-last e) ∙ misuse-goes ds this [] (ap (λ k. fits ds (kind_of k) this.bytes []) e)
 
-  module _ (f : r.kind ≡ 1 → ⊥) where
+  module _ (f : r.kind ≡ Ending → ⊥) where
     pub token-goes : ok ≡ true → misuse_from text at ≡ misuse_from text r.to
-    token-goes e = ap (first_misuse ds) (token-more text at r n f) ∙ misuse-goes ds this after (fine-here true e)
-
-    pub token-forward : length text - r.to < length text - at
-    token-forward = omega (arith, n.later, n.progress f, n.inside)
+    token-goes e = ap (first_misuse ds) (token-more f) ∙ misuse-goes ds this after e
 
 -- i pairs of brackets are passed from `start` to `at`.
 pub record PairsTo (text : List ℕ) (start at i : ℕ) : Type 0 where
@@ -135,20 +128,14 @@ pub record PairsTo (text : List ℕ) (start at i : ℕ) : Type 0 where
   pub most : i ≤ 4096
   pub pairs : drop i (in_brackets (tokens 0 (drop start text))) ≡ in_brackets (tokens 0 (drop at text))
 
-pub pairs_start : (text : List ℕ) (start : ℕ) → start ≤ length text → PairsTo text start start 0
-pairs_start text start l = record { inside = l; later = omega arith; most = omega arith; pairs = refl }
-
 module _ (text : List ℕ) (start at i : ℕ) (C : PairsTo text start at i) (r : Scanned) (n : Next text at r) where
-  pub given-here : i < 4096 → (given : List ℕ) → Given (tokens 0 (drop start text)) given → r.kind ≡ 2 → GivenAt given i (tokens 0 (drop r.to text))
+  pub given-here : i < 4096 → (given : List ℕ) → Given (tokens 0 (drop start text)) given → r.kind ≡ Name → GivenAt given i (tokens 0 (drop r.to text))
   given-here l given g e k ks q =
-      g i k ks l
-      (C.pairs
-      ∙ ap in_brackets (token-more text at r n (λ z. omega arith))
-      ∙ brackets-other (this text at r n) (tokens 0 (drop r.to text)) (λ z. omega (arith, n.kind))
-      ∙ q)
+      let o : is opening (this text at r n) ≡ false = ap (λ k. same_kind opening (kind_of k)) e in
+      g i k ks l (C.pairs ∙ ap in_brackets (token-more text at r n (λ z. cc)) ∙ brackets-other (this text at r n) (tokens 0 (drop r.to text)) o ∙ q)
 
-  pub pairs-on : (r.kind ≡ 1 → ⊥) → i < 4096 → (j : ℕ) → (r.kind ≡ 8 → j ≡ i + 1) × ((r.kind ≡ 8 → ⊥) → j ≡ i) → PairsTo text start r.to j
-  pairs-on f l j h = go (ℕ_discrete r.kind 8)
+  pub pairs-on : (r.kind ≡ Ending → ⊥) → i < 4096 → (j : ℕ) → (r.kind ≡ Opening → j ≡ i + 1) × ((r.kind ≡ Opening → ⊥) → j ≡ i) → PairsTo text start r.to j
+  pairs-on f l j h = go (is opening (this text at r n)) refl
     where
       all : List ℕ
       all = in_brackets (tokens 0 (drop start text))
@@ -156,8 +143,12 @@ module _ (text : List ℕ) (start at i : ℕ) (C : PairsTo text start at i) (r :
       before : drop i all ≡ in_brackets (this text at r n ∷ after text at r n)
       before = C.pairs ∙ ap in_brackets (token-more text at r n f)
 
-      go : Dec (r.kind ≡ 8) → PairsTo text start r.to j
-      go (yes q) =
+      is-opening : (k : Scanned_kind) → same_kind opening (kind_of k) ≡ true → k ≡ Opening
+      is-opening k e = grind (arith, e)
+
+      go : (b : Bool) → is opening (this text at r n) ≡ b → PairsTo text start r.to j
+      go true e =
+          let q = is-opening r.kind e in
           let one = h.0 q in
           record {
             inside = n.inside;
@@ -166,15 +157,15 @@ module _ (text : List ℕ) (start at i : ℕ) (C : PairsTo text start at i) (r :
             pairs =
                 ap (λ m. drop m all) one
                 ∙ (drop-front all i (suc (commas 0 (after text at r n))) (in_brackets (after text at r n))
-                (before ∙ brackets-opening (this text at r n) (after text at r n) (n.kind ∙ q))).1;
+                (before ∙ brackets-opening (this text at r n) (after text at r n) (ap kind_of q))).1;
           }
-      go (no q) =
-          let same = h.1 q in
+      go false e =
+          let same = h.1 (λ q. let z = ap (λ k. same_kind opening (kind_of k)) q in cc) in
           record {
             inside = n.inside;
             later = omega (arith, C.later, n.later, n.progress f);
             most = omega arith;
-            pairs = ap (λ m. drop m all) same ∙ before ∙ brackets-other (this text at r n) (after text at r n) (λ z. q (sym n.kind ∙ z));
+            pairs = ap (λ m. drop m all) same ∙ before ∙ brackets-other (this text at r n) (after text at r n) e;
           }
 
 -- The whole.
@@ -182,11 +173,9 @@ pub clauses-misused : (text : List ℕ) (end : ℕ) → clause_tokens 0 (tokens 
 unfolding text_entries
 clauses-misused text end e = misused-first (text_declarations text) dot (clause_tokens 0 (tokens 0 text)) ∙ ap (first_misuse (text_declarations text)) e
 
-pub record SearchedTo (text given : List ℕ) (at : ℕ) : Type 0 where
+pub record SearchedTo (text : List ℕ) (at : ℕ) : Type 0 where
   pub inside : at ≤ length text
-  pub room : length given ≡ 4096
   pub same : misused (text_declarations text) (text_entries text) ≡ misuse_from text at
 
-pub search-start :
-    (text given : List ℕ) (end : ℕ) → end ≤ length text → length given ≡ 4096 → clause_tokens 0 (tokens 0 text) ≡ tokens 0 (drop end text) → SearchedTo text given end
-search-start text given end l g e = record { inside = l; room = g; same = clauses-misused text end e }
+pub search-start : (text : List ℕ) (end : ℕ) → end ≤ length text → clause_tokens 0 (tokens 0 text) ≡ tokens 0 (drop end text) → SearchedTo text end
+search-start text end l e = record { inside = l; same = clauses-misused text end e }

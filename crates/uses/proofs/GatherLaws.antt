@@ -1,186 +1,167 @@
 -- Gathering the names that are used.
-use Prim.Native.Nat.{ℕ, zero, suc, ◌+◌, ◌-◌, ◌≤◌, ◌<◌}
-use mathlib.Core.Path.{◌≡◌, refl, ap, ap₂, sym, ◌∙◌}
+use Prim.Native.Nat.{ℕ, suc, ◌+◌, ◌-◌, ◌<◌}
+use mathlib.Core.Path.{◌≡◌, ap, ap₂, sym, ◌∙◌}
 use mathlib.Core.Bool.{true, false}
 use mathlib.Core.Option.{some}
-use mathlib.Core.List.{List}
+use mathlib.Core.List.{List, [], ◌∷◌}
 use mathlib.Core.Logic.{◌⊎◌, inl, inr}
 use native.Mathlib.Omega.{arith}
 use native.Mathlib.Decide.{dec_lt}
-use lib.ListN.{length, get_or, drop, set, length-set, replicate}
-use lib.Seq.{slice, get_or-set_same, get_or-set_other}
-use lib.Dec.{eqb}
+use lib.ListN.{length, length-append, get_or, get_or-append, take, drop}
+use Rattle.std.specs.Prelude.{Option, Some, None}
+use lib.Seq.{get_or-append_seam}
 use Rattle.text_rules.specs.TextTokens.{tokens}
 use Rattle.text_rules.specs.TextTokens as rules
 use Rattle.text_rules.specs.TextWords.{Declaration, given_arguments}
 use Rattle.text_rules.specs.Text.{place_of, text_declarations}
+use Rattle.text.specs.declared.names.Entry.{Entry}
+use Rattle.text.specs.declared.tokens.Kind.TheVariants.{Name, Ending}
 use Rattle.text.specs.declared.tokens.Token.{Token}
-use Rattle.text.specs.Names.{last_with, name_at, is_name, Entered}
+use Rattle.text.specs.Kinds.{kind_of}
+use Rattle.text.specs.Hash.{last_with, found_at, is_name}
+use Rattle.text.specs.Names.{Table, no_entry, entry_at, name_at, entered}
 use Rattle.text.specs.Scan.{Next}
-use Rattle.text.proofs.NameLaws.{bytes_same, last-below, last-passes}
+use Rattle.text.proofs.NameLaws.{bytes_same, found_none, found_some, last-below, last-passes}
 use Rattle.text.proofs.NumberLaws.{last_none}
-use Rattle.naming.specs.Table.{Cleared}
-use Rattle.naming.proofs.TableLaws.{none-entered}
 use Rattle.uses.specs.Uses.{takes, fits, misuse_from}
-use Rattle.uses.specs.Batches.{arity_in, Room, takes_at, Gathered, FirstOther}
+use Rattle.uses.specs.Batches.{arity_in, is_arity, takes_at, Gathered, Gathers, agrees_at, FirstOther}
 use Rattle.uses.proofs.ArityLaws.{takes-arity}
 use Rattle.uses.proofs.CheckLaws.{fits-other, fits-name, token-stops, token-goes}
 
-pub zeros : (n j : ℕ) → ◌≡◌ {A = ℕ} (get_or (replicate n 0) j 0) 0
-zeros zero j = refl
-zeros (suc n) zero = refl
-zeros (suc n) (suc j) = zeros n j
+pub gathered-any : (t : Table) (start : ℕ) (r : Option ℕ) → Gathers t start r → (at : ℕ) × Gathered t start at
+gathered-any t start None g = (g.0, g.1)
+gathered-any t start (Some at) g = (at, g.0)
 
-pub gather-start :
-    (text froms tos heads befores given : List ℕ) (start : ℕ) → start ≤ length text → Cleared froms tos heads befores given
-    → Gathered text start start froms tos heads befores given 0
-gather-start text froms tos heads befores given start l c =
-    record {
-      room =
-          record {
-            entered = none-entered text froms tos heads befores given c;
-            few = omega arith;
-            in_froms = c.in_froms;
-            in_tos = c.in_tos;
-            in_befores = c.in_befores;
-            in_given = c.in_symbols;
-          };
-      distinct = λ i j p q. absurd (omega arith);
-      later = omega arith;
-      inside = l;
-      all = λ a. refl;
-      first = λ j p. absurd (omega arith);
-    }
+-- A name that is found is in the table.
+pub found_inside : (t : Table) (bytes : List ℕ) (j : ℕ) → Some j ≡ found_at (last_with (is_name bytes) (name_at t) (length t.entries)) → j < length t.entries
+found_inside t bytes j q = omega (arith, found_some (last_with (is_name bytes) (name_at t) (length t.entries)) j q, last-below (is_name bytes) (name_at t) (length t.entries))
 
--- What is found is in the table.
-module _ (text froms tos heads befores given : List ℕ) (n : ℕ) (R : Room text froms tos heads befores given n) (this : List ℕ) (r : ℕ)
-    (e : r ≡ last_with (is_name this) (name_at text froms tos) n) (f : r ≡ 0 → ⊥) where
-  pub in-given : r - 1 < length given
-  in-given = omega (arith, e, f, R.few, R.in_given, last-below (is_name this) (name_at text froms tos) n)
+-- The entries, with one more.
+module _ (t : Table) (e : Entry) where
+  abbrev more : Table
+  more = entered t e
 
-  pub some-name : 0 < n
-  some-name = omega (arith, e, f, last-below (is_name this) (name_at text froms tos) n)
+  abbrev n : ℕ
+  n = length t.entries
 
-module _ (text : List ℕ) (start at : ℕ) (froms tos heads befores given : List ℕ) (n : ℕ) (G : Gathered text start at froms tos heads befores given n) where
+  size-entered : length more.entries ≡ n + 1
+  size-entered = length-append t.entries (e ∷ [])
+
+  old-entry : (j : ℕ) → j < n → entry_at more j ≡ entry_at t j
+  old-entry j l = get_or-append t.entries (e ∷ []) no_entry j l
+
+  new-entry : entry_at more n ≡ e
+  new-entry = get_or-append_seam t.entries e [] no_entry
+
+module _ (t : Table) (start at : ℕ) (G : Gathered t start at) where
   abbrev ds : List Declaration
-  ds = text_declarations text
+  ds = text_declarations t.text
 
-  pub gather-forward : 0 < n → start < at
-  gather-forward l = omega (arith, G.later)
-
-  module _ (t : Token) (N : Next text at t) (f : t.kind ≡ 1 → ⊥) where
+  module _ (token : Token) (N : Next t.text at token) (f : token.kind ≡ Ending → ⊥) where
     abbrev this : List ℕ
-    this = slice t.from t.to text
+    this = take (token.to - token.from) (drop token.from t.text)
 
     abbrev after : List rules.Token
-    after = tokens 0 (drop t.to text)
+    after = tokens 0 (drop token.to t.text)
 
     -- The names in the table tell of this token too.
-    noted-known : (((j : ℕ) → j < n → takes_at text froms tos given j ≡ true) → fits ds t.kind this after ≡ true) → Gathered text start t.to froms tos heads befores given n
+    noted-known : (((j : ℕ) → j < length t.entries → takes_at t j ≡ true) → fits ds (kind_of token.kind) this after ≡ true) → Gathered t start token.to
     noted-known h =
         record {
-          room = G.room;
+          few = G.few;
           distinct = G.distinct;
           later = omega (arith, G.later, N.later, N.forward);
           inside = N.inside;
-          all = λ a. G.all a ∙ token-goes text at t N f (h a);
+          all = λ a. G.all a ∙ token-goes t.text at token N f (h a);
           first = G.first;
         }
 
-    pub noted_other : (t.kind ≡ 2 → ⊥) → Gathered text start t.to froms tos heads befores given n
-    noted_other g = noted-known (λ a. fits-other ds t.kind this after g)
+    pub noted_other : (token.kind ≡ Name → ⊥) → Gathered t start token.to
+    noted_other g = noted-known (λ a. fits-other ds token.kind this after g)
 
-    module _ (e : t.kind ≡ 2) (k : ℕ) (K : k ≡ given_arguments after) where
-      fits-this : fits ds t.kind this after ≡ takes ds this k
-      fits-this = fits-name ds t.kind this after e ∙ ap (takes ds this) (sym K)
+    module _ (e : token.kind ≡ Name) (k : ℕ) (K : k ≡ given_arguments after) where
+      fits-this : fits ds (kind_of token.kind) this after ≡ takes ds this k
+      fits-this = fits-name ds token.kind this after e ∙ ap (takes ds this) (sym K)
 
-      pub noted-again : (r : ℕ) → r ≡ last_with (is_name this) (name_at text froms tos) n → (r ≡ 0 → ⊥) → get_or given (r - 1) 0 ≡ k → Gathered text start t.to froms tos heads befores given n
-      noted-again r q g s =
-          let one : r ≡ suc (r - 1) = omega arith in
-          let same : name_at text froms tos (r - 1) ≡ this =
-          bytes_same (name_at text froms tos (r - 1)) this (last-passes (is_name this) (name_at text froms tos) n (r - 1) (sym q ∙ one)) in
-          noted-known
-          (λ a. fits-this ∙ ap₂ (takes ds) (sym same) (sym s) ∙ a (r - 1) (omega (arith, q, last-below (is_name this) (name_at text froms tos) n)))
+      -- A name that is there.
+      pub noted-again : (j : ℕ) → Some j ≡ found_at (last_with (is_name this) (name_at t) (length t.entries)) → (entry_at t j).value ≡ k → Gathered t start token.to
+      noted-again j q s =
+          let p : last_with (is_name this) (name_at t) (length t.entries) ≡ suc j = found_some (last_with (is_name this) (name_at t) (length t.entries)) j q in
+          let same : name_at t j ≡ this = bytes_same (name_at t j) this (last-passes (is_name this) (name_at t) (length t.entries) j p) in
+          noted-known (λ a. fits-this ∙ ap₂ (takes ds) (sym same) (sym s) ∙ a j (omega (arith, p, last-below (is_name this) (name_at t) (length t.entries))))
 
       -- A name more.
-      module _ (fresh : last_with (is_name this) (name_at text froms tos) n ≡ 0) (less : n < 4096) (froms' tos' heads' befores' : List ℕ)
-          (is_froms : froms' ≡ set froms n t.from) (is_tos : tos' ≡ set tos n t.to) (E : Entered text froms' tos' heads' befores' (n + 1))
-          (in_befores : length befores' ≡ length befores) where
-        abbrev given' : List ℕ
-        given' = set given n k
+      module _ (fresh : None ≡ found_at (last_with (is_name this) (name_at t) (length t.entries))) (less : length t.entries < 4096) where
+        abbrev entry : Entry
+        entry = record { from = token.from; to = token.to; value = k }
 
-        at_last : (j : ℕ) → j < n + 1 → Dec (j < n) → (j < n) ⊎ (j ≡ n)
+        abbrev t' : Table
+        t' = entered t entry
+
+        unfound : last_with (is_name this) (name_at t) (length t.entries) ≡ 0
+        unfound = found_none (last_with (is_name this) (name_at t) (length t.entries)) fresh
+
+        size : length t'.entries ≡ length t.entries + 1
+        size = size-entered t entry
+
+        at_last : (j : ℕ) → j < length t'.entries → Dec (j < length t.entries) → (j < length t.entries) ⊎ (j ≡ length t.entries)
         at_last j l (yes p) = inl p
-        at_last j l (no p) = inr (omega arith)
+        at_last j l (no p) = inr (omega (arith, size))
 
-        old-name : (j : ℕ) → j < n → name_at text froms' tos' j ≡ name_at text froms tos j
-        old-name j l =
-            ap₂ (λ a b. name_at text a b j) is_froms is_tos
-            ∙ ap₂ (λ a b. slice a b text) (get_or-set_other froms n j t.from 0 (λ q. omega arith)) (get_or-set_other tos n j t.to 0 (λ q. omega arith))
+        old : (j : ℕ) → j < length t.entries → entry_at t' j ≡ entry_at t j
+        old j l = old-entry t entry j l
 
-        old-from : (j : ℕ) → j < n → get_or froms' j 0 ≡ get_or froms j 0
-        old-from j l = ap (λ a. get_or a j 0) is_froms ∙ get_or-set_other froms n j t.from 0 (λ q. omega arith)
+        last : entry_at t' (length t.entries) ≡ entry
+        last = new-entry t entry
 
-        new-from : get_or froms' n 0 ≡ t.from
-        new-from = ap (λ a. get_or a n 0) is_froms ∙ get_or-set_same froms n t.from 0 (omega (arith, G.room.in_froms))
+        old-name : (j : ℕ) → j < length t.entries → name_at t' j ≡ name_at t j
+        old-name j l = ap (λ (x : Entry). take (x.to - x.from) (drop x.from t.text)) (old j l)
 
-        new-name : name_at text froms' tos' n ≡ this
-        new-name =
-            ap₂ (λ a b. name_at text a b n) is_froms is_tos
-            ∙ ap₂ (λ a b. slice a b text) (get_or-set_same froms n t.from 0 (omega (arith, G.room.in_froms))) (get_or-set_same tos n t.to 0 (omega (arith, G.room.in_tos)))
+        new-name : name_at t' (length t.entries) ≡ this
+        new-name = ap (λ (x : Entry). take (x.to - x.from) (drop x.from t.text)) last
 
-        old-takes : (j : ℕ) → j < n → takes_at text froms' tos' given' j ≡ takes_at text froms tos given j
-        old-takes j l = ap₂ (takes ds) (old-name j l) (get_or-set_other given n j k 0 (λ q. omega arith))
+        old-takes : (j : ℕ) → j < length t.entries → takes_at t' j ≡ takes_at t j
+        old-takes j l = ap₂ (takes ds) (old-name j l) (ap (λ (x : Entry). x.value) (old j l))
 
-        new-takes : takes_at text froms' tos' given' n ≡ fits ds t.kind this after
-        new-takes = ap₂ (takes ds) new-name (get_or-set_same given n k 0 (omega (arith, G.room.in_given))) ∙ sym fits-this
+        new-takes : takes_at t' (length t.entries) ≡ fits ds (kind_of token.kind) this after
+        new-takes = ap₂ (takes ds) new-name (ap (λ (x : Entry). x.value) last) ∙ sym fits-this
 
-        before : ((j : ℕ) → j < n → takes_at text froms' tos' given' j ≡ true) → misuse_from text start ≡ misuse_from text at
+        before : ((j : ℕ) → j < length t.entries → takes_at t' j ≡ true) → misuse_from t.text start ≡ misuse_from t.text at
         before a = G.all (λ j l. sym (old-takes j l) ∙ a j l)
 
-        differ : (i j : ℕ) → i < j → (j < n) ⊎ (j ≡ n) → name_at text froms' tos' i ≡ name_at text froms' tos' j → ⊥
+        differ : (i j : ℕ) → i < j → (j < length t.entries) ⊎ (j ≡ length t.entries) → name_at t' i ≡ name_at t' j → ⊥
         differ i j p (inl l) s = G.distinct i j p l (sym (old-name i (omega arith)) ∙ s ∙ old-name j l)
         differ i j p (inr q) s =
-            last_none this (name_at text froms tos) n i fresh (omega arith)
-            (sym new-name ∙ ap (name_at text froms' tos') (sym q) ∙ sym s ∙ old-name i (omega arith))
+            last_none this (name_at t) (length t.entries) i unfound (omega arith) (sym new-name ∙ ap (name_at t') (sym q) ∙ sym s ∙ old-name i (omega arith))
 
         misused-at :
-            (j : ℕ) → (j < n) ⊎ (j ≡ n) → ((i : ℕ) → i < j → takes_at text froms' tos' given' i ≡ true) → takes_at text froms' tos' given' j ≡ false
-            → place_of text (misuse_from text start) ≡ some (get_or froms' j 0)
+            (j : ℕ) → (j < length t.entries) ⊎ (j ≡ length t.entries) → ((i : ℕ) → i < j → takes_at t' i ≡ true) → takes_at t' j ≡ false
+            → place_of t.text (misuse_from t.text start) ≡ some (entry_at t' j).from
         misused-at j (inl l) a q =
-            G.first j l (λ i p. sym (old-takes i (omega arith)) ∙ a i p) (sym (old-takes j l) ∙ q) ∙ ap some (sym (old-from j l))
+            G.first j l (λ i p. sym (old-takes i (omega arith)) ∙ a i p) (sym (old-takes j l) ∙ q) ∙ ap (λ (x : Entry). some x.from) (sym (old j l))
         misused-at j (inr s) a q =
-            ap (place_of text) (before (λ i p. a i (omega arith)))
-            ∙ token-stops text at t N (sym new-takes ∙ ap (takes_at text froms' tos' given') (sym s) ∙ q)
-            ∙ ap some (sym new-from ∙ ap (λ i. get_or froms' i 0) (sym s))
+            ap (place_of t.text) (before (λ i p. a i (omega arith)))
+            ∙ token-stops t.text at token N (sym new-takes ∙ ap (takes_at t') (sym s) ∙ q)
+            ∙ ap (λ (x : Entry). some x.from) (sym last ∙ ap (entry_at t') (sym s))
 
-        pub noted-new : Gathered text start t.to froms' tos' heads' befores' given' (n + 1)
+        pub noted-new : Gathered t' start token.to
         noted-new =
             record {
-              room =
-                  record {
-                    entered = E;
-                    few = omega arith;
-                    in_froms = omega (arith, G.room.in_froms, ap length is_froms, length-set froms n t.from);
-                    in_tos = omega (arith, G.room.in_tos, ap length is_tos, length-set tos n t.to);
-                    in_befores = omega (arith, G.room.in_befores);
-                    in_given = omega (arith, G.room.in_given, length-set given n k);
-                  };
-              distinct = λ i j p l. differ i j p (at_last j l (dec_lt j n));
-              later = omega (arith, G.later, N.later, N.progress f);
+              few = omega (arith, size);
+              distinct = λ i j p l. differ i j p (at_last j l (dec_lt j (length t.entries)));
+              later = omega (arith, G.later, N.later, N.progress f, size);
               inside = N.inside;
-              all = λ a. before (λ j l. a j (omega arith)) ∙ token-goes text at t N f (sym new-takes ∙ a n (omega arith));
-              first = λ j l. misused-at j (at_last j l (dec_lt j n));
+              all = λ a. before (λ j l. a j (omega (arith, size))) ∙ token-goes t.text at token N f (sym new-takes ∙ a (length t.entries) (omega (arith, size)));
+              first = λ j l. misused-at j (at_last j l (dec_lt j (length t.entries)));
             }
 
   -- What is found of the declarations.
-  module _ (found : List ℕ) (arities : (j : ℕ) → j < n → get_or found j 0 ≡ arity_in ds (name_at text froms tos j)) (r : ℕ) (F : FirstOther found given n r) where
-    takes-found : (j : ℕ) → j < n → takes_at text froms tos given j ≡ eqb (get_or found j 0) (suc (get_or given j 0))
-    takes-found j l =
-        takes-arity ds (name_at text froms tos j) (get_or given j 0) ∙ ap (λ a. eqb a (suc (get_or given j 0))) (sym (arities j l))
+  module _ (found : List (Option ℕ)) (arities : (j : ℕ) → j < length t.entries → get_or found j None ≡ arity_in ds (name_at t j)) where
+    takes-found : (j : ℕ) → j < length t.entries → takes_at t j ≡ agrees_at found t j
+    takes-found j l = takes-arity ds (name_at t j) (entry_at t j).value ∙ ap (λ a. is_arity a (entry_at t j).value) (sym (arities j l))
 
-    pub gather-misused : r < n → place_of text (misuse_from text start) ≡ some (get_or froms r 0)
-    gather-misused l = G.first r l (λ i p. takes-found i (omega arith) ∙ F.before i p) (takes-found r l ∙ F.here l)
+    pub gather-misused : (r : ℕ) → FirstOther found t (Some r) → place_of t.text (misuse_from t.text start) ≡ some (entry_at t r).from
+    gather-misused r F = G.first r F.0 (λ i p. takes-found i (omega (arith, F.0)) ∙ F.2 i p) (takes-found r F.0 ∙ F.1)
 
-    pub gather-fine : n ≤ r → misuse_from text start ≡ misuse_from text at
-    gather-fine g = G.all (λ j l. takes-found j l ∙ F.before j (omega arith))
+    pub gather-fine : FirstOther found t None → misuse_from t.text start ≡ misuse_from t.text at
+    gather-fine F = G.all (λ j l. takes-found j l ∙ F j l)

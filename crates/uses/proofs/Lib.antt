@@ -1,6 +1,6 @@
+pub mod CommaLaws
 pub mod BracketLaws
 pub mod MarkLaws
-pub mod CountingLaws
 pub mod TableLaws
 pub mod CheckLaws
 pub mod ArityLaws

@@ -1,19 +1,20 @@
 -- Brackets and commas by bytes and by tokens.
-use Prim.Native.Nat.{ℕ, zero, suc, ◌+◌, ◌-◌, ◌<◌}
+use Prim.Native.Nat.{ℕ, zero, suc, ◌+◌, ◌-◌, ◌≤◌, ◌<◌}
 use mathlib.Core.Path.{◌≡◌, refl, ap, ap₂, sym, ◌∙◌, subst}
 use mathlib.Core.Bool.{Bool, true, false, not, ◌&&◌, ◌||◌, and-eq-true_iff}
 use mathlib.Core.List.{List, [], ◌∷◌}
 use native.Mathlib.Omega.{arith}
 use native.Mathlib.Decide.{dec_lt}
-use lib.ListN.{length, take}
+use lib.ListN.{length, take, drop, get_or, drop_of_length-le}
+use lib.Seq.{drop-cons}
+use native.Mathlib.Numerals.{add-one}
 use lib.Dec.{leb, eqb}
-use borrow.Author.Tests.{eq-eqb, ne_eqb, eqb-true, le-leb}
-use Rattle.text_rules.specs.TextTokens.{Kind, name, number, variable, implies, invalid, kind_number, Class, no_class, space, letter, zero_digit, digit, underscore, colon, minus, mark, class_number, class_in, ranges, class_of, is_class, digit_byte, word_byte, longest, numeral, value, Token, token, at_most, number_token, variable_token, implies_token, token_from, end_token, tokens}
+use borrow.Author.Tests.{eq-eqb, ne_eqb, eqb-true, le-leb, lt-leb}
+use Rattle.text_rules.specs.TextTokens.{Kind, name, number, variable, implies, invalid, opening, closing, comma, kind_number, Class, no_class, space, letter, zero_digit, digit, underscore, colon, minus, mark, class_number, class_in, Range, range, ranges, class_of, is_class, digit_byte, word_byte, longest, numeral, value, Token, token, at_most, number_token, variable_token, implies_token, token_from, end_token, tokens}
+use Rattle.text_rules.specs.TextGrammar.{is}
 use Rattle.text_rules.specs.TextWords.{commas}
-use Rattle.text.proofs.ClassLaws.{not-in-table}
-use Rattle.text.proofs.CountLaws.{count-inside, count-passed}
-use Rattle.uses.specs.Brackets.{mark_of, in_brackets}
-use Rattle.uses.proofs.BracketLaws.{true-false, brackets-other}
+use Rattle.uses.specs.Pairs.{mark_of, in_brackets}
+use Rattle.uses.proofs.CommaLaws.{same_as, commas-other, brackets-other}
 
 abbrev pub mark_token : ℕ → Token
 mark_token b = token (mark_of b) [] 0
@@ -21,6 +22,13 @@ mark_token b = token (mark_of b) [] 0
 abbrev pub marks : List ℕ → List Token
 marks [] = end_token ∷ []
 marks (b ∷ bs) = mark_token b ∷ marks bs
+
+-- From one byte to the next, and at the end.
+pub marks-next : (bs : List ℕ) (i : ℕ) → i < length bs → marks (drop i bs) ≡ mark_token (get_or bs i 0) ∷ marks (drop (i + 1) bs)
+marks-next bs i h = ap marks (drop-cons bs i 0 h) ∙ ap (λ k. mark_token (get_or bs i 0) ∷ marks (drop k bs)) (sym (add-one i))
+
+pub marks-end : (bs : List ℕ) (i : ℕ) → length bs ≤ i → marks (drop i bs) ≡ end_token ∷ []
+marks-end bs i h = ap marks (drop_of_length-le bs h)
 
 -- Two kinds are alike where both are none of the three, or the same.
 record Alike (k l : Kind) : Type 0 where
@@ -30,7 +38,7 @@ record Alike (k l : Kind) : Type 0 where
 
 -- A byte of another class is no mark.
 abbrev Other : ℕ → Type 0
-Other b = kind_number (mark_of b) ≡ 0
+Other b = mark_of b ≡ invalid
 
 class-bracket : (b n c : ℕ) → class_number (class_of n) ≡ c → (class_number (class_of b) ≡ c → ⊥) → eqb b n ≡ false
 class-bracket b n c e f = ne_eqb b n (λ q. f (ap (λ x. class_number (class_of x)) q ∙ e))
@@ -38,6 +46,24 @@ class-bracket b n c e f = ne_eqb b n (λ q. f (ap (λ x. class_number (class_of 
 other_byte : (b : ℕ) → (class_number (class_of b) ≡ 24 → ⊥) → (class_number (class_of b) ≡ 25 → ⊥) → (class_number (class_of b) ≡ 26 → ⊥) → Other b
 unfolding class_of class_in ranges
 other_byte b f g h = rw (class-bracket b 40 24 refl f, class-bracket b 41 25 refl g, class-bracket b 44 26 refl h, mark_of)
+
+-- Bytes above 127 belong to no class.
+abbrev Below : ℕ → List Range → Type 0
+Below b [] = Unit {0}
+Below b (range first last c ∷ rs) = (last < b) × Below b rs
+
+no-class : (b : ℕ) (rs : List Range) → Below b rs → class_in rs b ≡ no_class
+unfolding class_in
+no-class b [] h = refl
+no-class b (range first last c ∷ rs) h = rw (lt-leb b last h.0, and-false (leb first b), class_in) (no-class b rs h.1)
+  where
+    and-false : (a : Bool) → (a && false) ≡ false
+    and-false true = refl
+    and-false false = refl
+
+not-in-table : (b : ℕ) → 128 ≤ b → class_number (class_of b) ≡ 0
+unfolding class_of ranges
+not-in-table b h = ap class_number (no-class b ranges (omega arith))
 
 -- A test that passes at each number below n.
 abbrev every : (ℕ → Bool) → ℕ → Bool
@@ -120,14 +146,14 @@ unfolding digit_byte is_class
 digit-other b e = other_byte b (λ q. no 24 q refl) (λ q. no 25 q refl) (λ q. no 26 q refl)
   where
     no : (n : ℕ) → class_number (class_of b) ≡ n → (eqb n 3 || eqb n 4) ≡ false → ⊥
-    no n q f = true-false (sym f ∙ subst (λ c. (eqb c 3 || eqb c 4) ≡ true) q e)
+    no n q f = let g = subst (λ c. (eqb c 3 || eqb c 4) ≡ true) q e in cc
 
 word-other : (b : ℕ) → word_byte b ≡ true → Other b
 unfolding word_byte digit_byte is_class
 word-other b e = other_byte b (λ q. no 24 q refl) (λ q. no 25 q refl) (λ q. no 26 q refl)
   where
     no : (n : ℕ) → class_number (class_of b) ≡ n → (eqb n 2 || (eqb n 3 || eqb n 4)) ≡ false → ⊥
-    no n q f = true-false (sym f ∙ subst (λ c. (eqb c 2 || (eqb c 3 || eqb c 4)) ≡ true) q e)
+    no n q f = let g = subst (λ c. (eqb c 2 || (eqb c 3 || eqb c 4)) ≡ true) q e in cc
 
 space-other : (b : ℕ) → is_class space b ≡ true → Other b
 unfolding is_class
@@ -187,7 +213,7 @@ at-most most k n h = go (leb n most) refl
 
 module _ (b : ℕ) (bs : List ℕ) (o : Other b) where
   low : (k : Kind) → kind_number k < 8 → Alike (mark_of b) k
-  low k h = small-alike (mark_of b) k (omega arith) h
+  low k h = small-alike (mark_of b) k (omega (arith, ap kind_number o)) h
 
   number-like : TokenLike b bs (number_token (numeral (b ∷ bs)) (length (b ∷ bs)))
   unfolding number_token
@@ -269,11 +295,9 @@ module _ (t u : Token) (ts us : List Token) (a : Alike t.kind u.kind) (g : Agree
 -- A byte that is no mark counts nothing.
 module _ (b : ℕ) (o : Other b) (ts us : List Token) (g : Agree ts us) where
   agree-pass : Agree (mark_token b ∷ ts) us
-  agree-pass = record { numbers = brackets-other (mark_token b) ts (λ e. omega arith) ∙ g.numbers; parts = λ d. passed d ∙ g.parts d }
-    where
-      passed : (d : ℕ) → commas d (mark_token b ∷ ts) ≡ commas d ts
-      passed zero = omega (arith, (count-passed 0 0 0 refl (λ q. omega arith) (λ q. omega arith) (λ q. omega arith)).step (mark_token b) ts o)
-      passed (suc d) = omega (arith, (count-inside (suc d) 0 0 (λ q. omega arith) (λ q. omega arith) (λ q. omega arith)).step (mark_token b) ts o)
+  agree-pass =
+      let n : is opening (mark_token b) ≡ false = same_as (mark_token b) invalid o opening in
+      record { numbers = brackets-other (mark_token b) ts n ∙ g.numbers; parts = λ d. commas-other (mark_token b) ts o d ∙ g.parts d }
 
 agree : (skip : ℕ) (bs : List ℕ) → Plain skip bs → Agree (marks bs) (tokens skip bs)
 unfolding tokens
@@ -292,24 +316,16 @@ agree zero (b ∷ bs) p = go (is_class space b) refl (agree 0 bs tt) (agree (len
 pub marks-numbers : (bs : List ℕ) → in_brackets (marks bs) ≡ in_brackets (tokens 0 bs)
 marks-numbers bs = (agree 0 bs tt).numbers
 
-pub mark-kind : (b : ℕ) → kind_number (mark_of b) ≡ 1 → ⊥
-mark-kind b e = go (eqb b 40) refl (eqb b 41) refl (eqb b 44) refl
-  where
-    go : (x : Bool) → eqb b 40 ≡ x → (y : Bool) → eqb b 41 ≡ y → (z : Bool) → eqb b 44 ≡ z → ⊥
-    go true p y q z r = let f : ◌≡◌ {A = ℕ} 8 1 = rw (p, mark_of) at e in omega arith
-    go false p true q z r = let f : ◌≡◌ {A = ℕ} 9 1 = rw (p, q, mark_of) at e in omega arith
-    go false p false q true r = let f : ◌≡◌ {A = ℕ} 10 1 = rw (p, q, r, mark_of) at e in omega arith
-    go false p false q false r = let f : ◌≡◌ {A = ℕ} 0 1 = rw (p, q, r, mark_of) at e in omega arith
-
+-- The kind of a byte.
 module _ (b : ℕ) where
-  pub mark-opening : b ≡ 40 → 8 ≡ kind_number (mark_of b)
+  pub mark-opening : b ≡ 40 → mark_of b ≡ opening
   mark-opening e = rw (eq-eqb b 40 e, mark_of) refl
 
-  pub mark-closing : (b ≡ 40 → ⊥) → b ≡ 41 → 9 ≡ kind_number (mark_of b)
-  mark-closing f e = rw (ne_eqb b 40 f, eq-eqb b 41 e, mark_of) refl
+  pub mark-closing : b ≡ 41 → mark_of b ≡ closing
+  mark-closing e = let f = ne_eqb b 40 (λ q. omega arith) in rw (f, eq-eqb b 41 e, mark_of) refl
 
-  pub mark-comma : (b ≡ 40 → ⊥) → (b ≡ 41 → ⊥) → b ≡ 44 → 10 ≡ kind_number (mark_of b)
-  mark-comma f g e = rw (ne_eqb b 40 f, ne_eqb b 41 g, eq-eqb b 44 e, mark_of) refl
+  pub mark-comma : b ≡ 44 → mark_of b ≡ comma
+  mark-comma e = let f = ne_eqb b 40 (λ q. omega arith) in let g = ne_eqb b 41 (λ q. omega arith) in rw (f, g, eq-eqb b 44 e, mark_of) refl
 
-  pub mark-none : (b ≡ 40 → ⊥) → (b ≡ 41 → ⊥) → (b ≡ 44 → ⊥) → 0 ≡ kind_number (mark_of b)
+  pub mark-none : (b ≡ 40 → ⊥) → (b ≡ 41 → ⊥) → (b ≡ 44 → ⊥) → mark_of b ≡ invalid
   mark-none f g h = rw (ne_eqb b 40 f, ne_eqb b 41 g, ne_eqb b 44 h, mark_of) refl

@@ -1,66 +1,64 @@
 -- Names that are used, in batches: up to 4,096 of them in a table, each once, with the numbers of their arguments.
-use Rattle.std.specs.Prelude.{ℕ, suc, ◌+◌, ◌≤◌, ◌<◌, ◌≡◌, Bool, true, false, List, [], ◌∷◌, length, get_or, drop, eqb}
-use Rattle.std.proofs.Math.Option.{some}
-use Rattle.text_rules.specs.TextTokens.{tokens}
+use Rattle.std.specs.Prelude.{ℕ, ◌+◌, ◌≤◌, ◌<◌, ◌≡◌, Bool, true, false, List, [], ◌∷◌, Option, Some, None, length, get_or, eqb}
+use Rattle.std.proofs.Math.Option.{none, some}
 use Rattle.text_rules.specs.TextGrammar.{same_bytes}
-use Rattle.text_rules.specs.TextWords.{Declaration, arity, given_arguments}
+use Rattle.text_rules.specs.TextWords.{Declaration, arity}
 use Rattle.text_rules.specs.Text.{place_of, text_declarations}
 use Rattle.text.specs.declared.tokens.Token.{Token}
-use Rattle.text.specs.Names.{name_at, Entered}
+use Rattle.text.specs.declared.tokens.Kind.TheVariants.{Ending}
+use Rattle.text.specs.Names.{Table, entry_at, name_at}
 use Rattle.text.specs.Scan.{Next}
 use Rattle.uses.specs.Uses.{takes, misuse_from}
 
--- One more than the arity of a name's first declaration; 0 where there is none.
-abbrev pub arity_in : List Declaration → List ℕ → ℕ
-arity_in [] name = 0
-arity_in (d ∷ ds) name = elim (same_bytes name d.name) [ true ↦ suc (arity d.symbol) | false ↦ arity_in ds name ]
+-- The arity of a name's first declaration, and whether it is that.
+abbrev pub arity_in : List Declaration → List ℕ → Option ℕ
+arity_in [] name = None
+arity_in (d ∷ ds) name = elim (same_bytes name d.name) [ true ↦ Some (arity d.symbol) | false ↦ arity_in ds name ]
 
-abbrev pub Distinct : (ℕ → List ℕ) → ℕ → Type 0
-Distinct name n = (i j : ℕ) → i < j → j < n → name i ≡ name j → ⊥
+abbrev pub is_arity : Option ℕ → ℕ → Bool
+is_arity None k = false
+is_arity (Some a) k = eqb a k
 
--- n names are in the table, which has room for 4,096.
-pub record Room (text froms tos heads befores given : List ℕ) (n : ℕ) : Type 0 where
-  pub entered : Entered text froms tos heads befores n
-  pub few : n ≤ 4096
-  pub in_froms : 4096 ≤ length froms
-  pub in_tos : 4096 ≤ length tos
-  pub in_befores : 4096 ≤ length befores
-  pub in_given : 4096 ≤ length given
+abbrev pub Distinct : Table → Type 0
+Distinct t = (i j : ℕ) → i < j → j < length t.entries → name_at t i ≡ name_at t j → ⊥
 
 -- Whether name j is declared with its number of arguments.
-abbrev pub takes_at : (text froms tos given : List ℕ) → ℕ → Bool
-takes_at text froms tos given j = takes (text_declarations text) (name_at text froms tos j) (get_or given j 0)
+abbrev pub takes_at : Table → ℕ → Bool
+takes_at t j = takes (text_declarations t.text) (name_at t j) (entry_at t j).value
 
 -- The names from `start` up to `at` are in the table: if all are declared so, the first misuse is looked for from `at` on,
 -- else the first one that is not is the first misuse.
-pub record Gathered (text : List ℕ) (start at : ℕ) (froms tos heads befores given : List ℕ) (n : ℕ) : Type 0 where
-  pub room : Room text froms tos heads befores given n
-  pub distinct : Distinct (name_at text froms tos) n
-  pub later : start + n ≤ at
-  pub inside : at ≤ length text
-  pub all : ((j : ℕ) → j < n → takes_at text froms tos given j ≡ true) → misuse_from text start ≡ misuse_from text at
+pub record Gathered (t : Table) (start at : ℕ) : Type 0 where
+  pub few : length t.entries ≤ 4096
+  pub distinct : Distinct t
+  pub later : start + length t.entries ≤ at
+  pub inside : at ≤ length t.text
+  pub all : ((j : ℕ) → j < length t.entries → takes_at t j ≡ true) → misuse_from t.text start ≡ misuse_from t.text at
   pub first :
-      (j : ℕ) → j < n → ((i : ℕ) → i < j → takes_at text froms tos given i ≡ true) → takes_at text froms tos given j ≡ false
-      → place_of text (misuse_from text start) ≡ some (get_or froms j 0)
+      (j : ℕ) → j < length t.entries → ((i : ℕ) → i < j → takes_at t i ≡ true) → takes_at t j ≡ false
+      → place_of t.text (misuse_from t.text start) ≡ some (entry_at t j).from
 
--- The next token t, which has k arguments if it is a name; or there is no room for it.
-pub record Noted (text : List ℕ) (t : Token) (k : ℕ) (froms tos heads befores given : List ℕ) (n : ℕ) (froms' tos' heads' befores' given' : List ℕ) (r : ℕ) : Type 0 where
-  pub more :
-      (r ≡ 4097 → ⊥) → (start at : ℕ) → Gathered text start at froms tos heads befores given n → Next text at t → (t.kind ≡ 1 → ⊥)
-      → (t.kind ≡ 2 → k ≡ given_arguments (tokens 0 (drop t.to text))) → Gathered text start t.to froms' tos' heads' befores' given' r
-  pub full :
-      r ≡ 4097 → (start at : ℕ) → Gathered text start at froms tos heads befores given n
-      → Gathered text start at froms' tos' heads' befores' given' n × (start < at)
+-- The next token, if there is room for it.
+pub record Noted (t : Table) (token : Token) (t' : Table) (r : Bool) : Type 0 where
+  pub text : t'.text ≡ t.text
+  pub more : r ≡ true → (start at : ℕ) → Gathered t start at → Next t.text at token → (token.kind ≡ Ending → ⊥) → Gathered t' start token.to
+  pub full : r ≡ false → (t' ≡ t) × (0 < length t.entries)
 
--- An arity for name j - 1, unless it has one.
-pub record Put (found : List ℕ) (j arity : ℕ) (found' : List ℕ) : Type 0 where
-  pub here : (i : ℕ) → j ≡ suc i → get_or found i 0 ≡ 0 → get_or found' i 0 ≡ suc arity
-  pub old : (i : ℕ) → j ≡ suc i → (get_or found i 0 ≡ 0 → ⊥) → get_or found' i 0 ≡ get_or found i 0
-  pub other : (i : ℕ) → (j ≡ suc i → ⊥) → get_or found' i 0 ≡ get_or found i 0
-  pub size : length found' ≡ length found
+-- Names that are gathered, and the place after them, if more may follow.
+abbrev pub Gathers : Table → ℕ → Option ℕ → Type 0
+Gathers t start (Some at) = Gathered t start at × (start < at)
+Gathers t start None = (at : ℕ) × Gathered t start at × (misuse_from t.text at ≡ none)
 
--- The first of n names that has another arity than it is given.
-pub record FirstOther (found given : List ℕ) (n r : ℕ) : Type 0 where
-  pub most : r ≤ n
-  pub before : (i : ℕ) → i < r → eqb (get_or found i 0) (suc (get_or given i 0)) ≡ true
-  pub here : r < n → eqb (get_or found r 0) (suc (get_or given r 0)) ≡ false
+-- An arity for a name, unless it has one.
+pub record Put (found : List (Option ℕ)) (j : Option ℕ) (arity : ℕ) (found' : List (Option ℕ)) : Type 0 where
+  pub here : (i : ℕ) → j ≡ Some i → get_or found i None ≡ None → get_or found' i None ≡ Some arity
+  pub old : (i a : ℕ) → j ≡ Some i → get_or found i None ≡ Some a → get_or found' i None ≡ Some a
+  pub other : (i : ℕ) → (j ≡ Some i → ⊥) → get_or found' i None ≡ get_or found i None
+
+-- The first name that has another arity than it is given.
+abbrev pub agrees_at : List (Option ℕ) → Table → ℕ → Bool
+agrees_at found t i = is_arity (get_or found i None) (entry_at t i).value
+
+abbrev pub FirstOther : List (Option ℕ) → Table → Option ℕ → Type 0
+FirstOther found t None = (i : ℕ) → i < length t.entries → agrees_at found t i ≡ true
+FirstOther found t (Some r) = (r < length t.entries) × (agrees_at found t r ≡ false) × ((i : ℕ) → i < r → agrees_at found t i ≡ true)

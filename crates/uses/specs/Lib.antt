@@ -1,3 +1,4 @@
-pub mod Brackets
+pub mod Pairs
+pub mod Counting
 pub mod Uses
 pub mod Batches

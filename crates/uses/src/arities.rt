@@ -1,75 +1,55 @@
 // The arities of names in a table, by one walk over the declarations.
-ghost use Rattle.std.specs.Prelude.{◌≡◌, ℕ, suc, ◌≤◌, ◌<◌, eqb, length, get_or};
+ghost use Rattle.std.specs.Prelude.{◌≡◌, ℕ, ◌≤◌, ◌<◌, None, IfSome, length, get_or};
 ghost use Rattle.std.proofs.Math.Option.{none};
 ghost use Rattle.text_rules.specs.TextTokens.{tokens};
 ghost use Rattle.text_rules.specs.TextGrammar.{item, unread};
 ghost use Rattle.text_rules.specs.Text.{text_declarations};
-ghost use Rattle.text.specs.Names.{name_at, Entered};
-ghost use Rattle.uses.specs.Batches.{Distinct, arity_in, Put, FirstOther};
+ghost use Rattle.text.specs.Names.{name_at};
+ghost use Rattle.uses.specs.Batches.{Distinct, arity_in, is_arity, Put, FirstOther};
 
-use naming::declarations::{Item, item_at};
-use text::names::find;
+use naming::declarations::item_at;
+use text::names::Names;
 
-// One more than the arity, for name j - 1, if it has none yet; j is 0 for no name.
-fn put(found: &mut [u16], j: usize, arity: u16)
-    requires { (j ≤ length found.old) × (arity ≤ 15) }
+// An arity for the name of that number, if it has none yet.
+fn put(found: &mut [Option<u16>; 4096], j: Option<usize>, arity: u16)
+    requires { IfSome j (λ i. i < 4096) }
     ensures { Put found.old j arity found.new }
 {
-    if j == 0 {
-        return;
+    if let Some(j) = j {
+        if found[j].is_none() {
+            found[j] = Some(arity);
+        }
     }
-    if found[j - 1] != 0 {
-        return;
-    }
-    found[j - 1] = arity + 1;
 }
 
-// One more than the arity of each name's first declaration, or 0.
-pub fn declared(
-    text: &[u8],
-    froms: &[usize],
-    tos: &[usize],
-    heads: &[u16],
-    befores: &[u16],
-    n: usize,
-    found: &mut [u16],
-)
-    requires text_value { (unread item (tokens 0 text.now) ≡ none) × Entered text.now froms.now tos.now heads.now befores.now n }
-    requires distinct { Distinct (name_at text.now froms.now tos.now) n × (n ≤ length found.old) × ((j : ℕ) → get_or found.old j 0 ≡ 0) }
-    ensures { (j : ℕ) → j < n → get_or found.new j 0 ≡ arity_in (text_declarations text.now) (name_at text.now froms.now tos.now j) }
+// The arity of each name's first declaration, in an array, since nothing is allocated.
+pub fn declared(names: &Names) -> [Option<u16>; 4096]
+    requires { (unread item (tokens 0 names.now.text) ≡ none) × Distinct names.now × (length names.now.entries ≤ 4096) }
+    ensures { (j : ℕ) → j < length names.now.entries → get_or result j None ≡ arity_in (text_declarations names.now.text) (name_at names.now j) }
 {
+    let text = names.text();
+    let mut found = [None; 4096];
     let mut at = 0;
-    loop {
-        let next = item_at(text, at);
-        let Item::Declares(d) = next else {
-            return;
-        };
-        let j = find(text, froms, tos, heads, befores, n, d.from, d.to);
-        put(found, j, d.arity);
+    while let Some(d) = item_at(text, at) {
+        let j = names.find(&text[d.from..d.to]);
+        put(&mut found, j, d.arity);
         at = d.end;
     }
+    found
 }
 
-fn agrees(found: u16, given: usize) -> bool
-    ensures { result ≡ eqb found (suc given) }
+fn agrees(found: Option<u16>, given: usize) -> bool
+    ensures { result ≡ is_arity found given }
 {
-    if found == 0 {
-        return false;
+    match found {
+        Some(arity) => usize::from(arity) == given,
+        None => false,
     }
-    (found - 1) as usize == given
 }
 
-// The first name that is not declared with the arguments given, or n.
-pub fn first_other(found: &[u16], given: &[usize], n: usize) -> usize
-    requires { (n ≤ length found.now) × (n ≤ length given.now) }
-    ensures { FirstOther found.now given.now n result }
+// The first name that is not declared with the arguments given.
+pub fn first_other(found: &[Option<u16>; 4096], names: &Names) -> Option<usize>
+    ensures { FirstOther found.now names.now result }
 {
-    let mut j = 0;
-    while j < n {
-        if !agrees(found[j], given[j]) {
-            return j;
-        }
-        j += 1;
-    }
-    n
+    (0..names.len()).find(|j| !agrees(found[*j], names.get(*j).value))
 }

@@ -1,172 +1,133 @@
 // The arguments in brackets, of 4,096 pairs at a time, whatever their nesting.
-ghost use Rattle.std.specs.Prelude.{◌≡◌, ◌⊎◌, List, ℕ, ◌+◌, ◌≤◌, ◌<◌, length, get_or, drop};
+ghost use Rattle.std.specs.Prelude.{ℕ, ◌≤◌, ◌<◌, length, drop, get_or};
 ghost use Rattle.text_rules.specs.TextTokens.{tokens};
-ghost use Rattle.uses.specs.Brackets.{MarkAt, Given, Fits, Stepped, Finished};
+ghost use Rattle.uses.specs.Pairs.{Given, number_at};
 
-// The pairs met, how many of them are open, and how many other ones are open in the last of these.
+// A pair of brackets that is open: its number in the order of opening, and how many of its arguments have begun.
+#[derive(Clone, Copy)]
+pub struct Pair {
+    pub number: usize,
+    pub begun: usize,
+}
+
+// The pairs met, with the numbers of their arguments; those that are open, one inside the other, in the first `row` places;
+// and how many other brackets are open in the last of these. The arrays have room for a batch, since nothing is allocated.
 #[derive(Clone, Copy)]
 pub struct Counting {
-    pub met: usize,
+    pub given: [usize; 4096],
+    pub pairs: [Pair; 4096],
     pub row: usize,
+    pub met: usize,
     pub inner: usize,
+    pub ghost few: { row ≤ met },
+    pub ghost most: { met ≤ 4096 },
+    pub ghost owner: { (j : ℕ) → j < row → number_at pairs j < met },
 }
 
-// At an opening bracket: its pair is put at the end of the row, with its first argument begun.
-fn opened(c: Counting, who: &mut [usize], begun: &mut [usize]) -> Counting
-    requires { (c.row ≤ c.met) × (c.met ≤ 4096) × (4096 ≤ length who.old) × (4096 ≤ length begun.old) × (c.inner < 18446744073709551615) }
-    ensures { (given : List ℕ) → Stepped 8 c who.old begun.old given result who.new begun.new given }
-{
-    let met = c.met;
-    let row = c.row;
-    let inner = c.inner;
-    if met == 4096 {
-        return Counting {
-            met,
-            row,
-            inner: inner + 1,
+impl Counting {
+    ghost use Rattle.std.specs.Prelude.{◌≡◌};
+    ghost use Rattle.text_rules.specs.TextTokens.{opening, closing, comma};
+    ghost use Rattle.uses.specs.Counting.{Room, Steps, Blank, Ended};
+    ghost use Rattle.uses.specs.Pairs.{mark_of};
+
+    fn new() -> Self
+        ensures { Blank result }
+    {
+        let none = Pair {
+            number: 0,
+            begun: 0,
         };
+        Counting {
+            given: [0; 4096],
+            pairs: [none; 4096],
+            row: 0,
+            met: 0,
+            inner: 0,
+        }
     }
-    who[row] = met;
-    begun[row] = 1;
-    Counting {
-        met: met + 1,
-        row: row + 1,
-        inner,
-    }
-}
 
-// At a closing bracket, or at the end of the text: the last pair of the row is known.
-fn closed(c: Counting, who: &[usize], begun: &[usize], given: &mut [usize]) -> Counting
-    requires { (c.row ≤ 4096) × (4096 ≤ length who.now) × (4096 ≤ length begun.now) × (4096 ≤ length given.old) × ((j : ℕ) → j < c.row → get_or who.now j 0 < 4096) }
-    ensures { (kind : ℕ) → (kind ≡ 9) ⊎ (kind ≡ 1) → Stepped kind c who.now begun.now given.old result who.now begun.now given.new }
-{
-    let met = c.met;
-    let row = c.row;
-    let inner = c.inner;
-    if inner != 0 {
-        return Counting {
-            met,
-            row,
-            inner: inner - 1,
+    // At an opening bracket: its pair is put at the end of the row, with its first argument begun.
+    fn opened(&mut self)
+        requires { Room self.old }
+        ensures { Steps opening self.old self.new }
+    {
+        if self.met == 4096 {
+            self.inner += 1;
+            return;
+        }
+        self.pairs[self.row] = Pair {
+            number: self.met,
+            begun: 1,
         };
+        self.row += 1;
+        self.met += 1;
     }
-    if row == 0 {
-        return c;
-    }
-    let last = row - 1;
-    let pair = who[last];
-    given[pair] = begun[last];
-    Counting {
-        met,
-        row: last,
-        inner,
-    }
-}
 
-// At a comma: the last pair of the row has one argument more.
-fn separated(c: Counting, begun: &mut [usize])
-    requires { (c.row ≤ 4096) × (4096 ≤ length begun.old) × ((j : ℕ) → j < c.row → get_or begun.old j 0 < 18446744073709551615) }
-    ensures { (who given : List ℕ) → Stepped 10 c who begun.old given c who begun.new given }
-{
-    let row = c.row;
-    if c.inner != 0 {
-        return;
+    // At a closing bracket: the last pair of the row is known.
+    fn closed(&mut self)
+        ensures { Steps closing self.old self.new }
+    {
+        if self.inner != 0 {
+            self.inner -= 1;
+            return;
+        }
+        if self.row == 0 {
+            return;
+        }
+        self.row -= 1;
+        let pair = self.pairs[self.row];
+        self.given[pair.number] = pair.begun;
     }
-    if row == 0 {
-        return;
-    }
-    let last = row - 1;
-    begun[last] = begun[last] + 1;
-}
 
-// The next token is of that kind.
-fn step(
-    kind: u8,
-    c: Counting,
-    who: &mut [usize],
-    begun: &mut [usize],
-    given: &mut [usize],
-) -> Counting
-    requires { Fits kind c who.old begun.old given.old }
-    ensures { Stepped kind c who.old begun.old given.old result who.new begun.new given.new }
-{
-    if kind == 8 {
-        return opened(c, who, begun);
+    // At a comma: the last pair of the row has one argument more.
+    fn separated(&mut self)
+        requires { Room self.old }
+        ensures { Steps comma self.old self.new }
+    {
+        if self.inner != 0 {
+            return;
+        }
+        if self.row == 0 {
+            return;
+        }
+        self.pairs[self.row - 1].begun += 1;
     }
-    if kind == 9 {
-        return closed(c, who, begun, given);
-    }
-    if kind == 1 {
-        return closed(c, who, begun, given);
-    }
-    if kind == 10 {
-        separated(c, begun);
-        return c;
-    }
-    c
-}
 
-fn finished(kind: u8, c: Counting) -> bool
-    ensures { Finished kind c result }
-{
-    if c.row != 0 {
-        return false;
+    fn step(&mut self, byte: u8)
+        requires { Room self.old }
+        ensures { Steps (mark_of byte) self.old self.new }
+    {
+        match byte {
+            b'(' => self.opened(),
+            b')' => self.closed(),
+            b',' => self.separated(),
+            _ => {}
+        }
     }
-    if kind == 1 {
-        return true;
-    }
-    c.met == 4096
-}
 
-// The kind of the byte at `at`: of an opening or a closing bracket, of a comma, of another one; or of the end.
-fn kind_at(text: &[u8], at: usize) -> u8
-    ensures { MarkAt text.now at result }
-{
-    if text.len() <= at {
-        return 1;
+    // At the end of the text: all pairs of the row are known.
+    fn ended(&self) -> [usize; 4096]
+        ensures { Ended self.now result }
+    {
+        let mut given = self.given;
+        for pair in &self.pairs[..self.row] {
+            given[pair.number] = pair.begun;
+        }
+        given
     }
-    let b = text[at];
-    if b == 40 {
-        return 8;
-    }
-    if b == 41 {
-        return 9;
-    }
-    if b == 44 {
-        return 10;
-    }
-    0
-}
-
-fn after(kind: u8, at: usize) -> usize
-    requires { (kind ≡ 1 → ⊥) → at < 18446744073709551615 }
-    ensures { (kind ≡ 1 → result ≡ at) × ((kind ≡ 1 → ⊥) → result ≡ at + 1) }
-{
-    if kind == 1 {
-        return at;
-    }
-    at + 1
 }
 
 // The numbers of the first 4,096 pairs from `from` on.
-pub fn count(text: &[u8], from: usize, given: &mut [usize])
-    requires { (from ≤ length text.now) × (4096 ≤ length given.old) }
-    ensures { Given (tokens 0 (drop from text.now)) given.new }
+pub fn count(text: &[u8], from: usize) -> [usize; 4096]
+    requires { from ≤ length text.now }
+    ensures { Given (tokens 0 (drop from text.now)) result }
 {
-    let mut who = [0usize; 4096];
-    let mut begun = [0usize; 4096];
-    let mut c = Counting {
-        met: 0,
-        row: 0,
-        inner: 0,
-    };
-    let mut at = from;
-    loop {
-        let kind = kind_at(text, at);
-        if finished(kind, c) {
-            return;
+    let mut counting = Counting::new();
+    for byte in &text[from..] {
+        counting.step(*byte);
+        if counting.met == 4096 && counting.row == 0 {
+            return counting.given;
         }
-        c = step(kind, c, &mut who, &mut begun, given);
-        at = after(kind, at);
     }
+    counting.ended()
 }

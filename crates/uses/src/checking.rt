@@ -1,109 +1,83 @@
 // Names one after the other, looked up in the table of declarations with the numbers of their arguments.
-ghost use Rattle.std.specs.Prelude.{◌≡◌, ◌+◌, ◌≤◌, ◌<◌, length, get_or, drop};
+ghost use Rattle.std.specs.Prelude.{◌≡◌, ◌+◌, ◌≤◌, ◌<◌, length, drop};
+ghost use Rattle.std.specs.List.{slice_range};
 ghost use Rattle.std.proofs.Math.Option.{none};
-ghost use Rattle.std.proofs.Math.Seq.{slice};
 ghost use Rattle.text_rules.specs.TextTokens.{tokens};
 ghost use Rattle.text_rules.specs.TextGrammar.{item, unread};
 ghost use Rattle.text_rules.specs.TextWords.{given_arguments};
 ghost use Rattle.text_rules.specs.Text.{text_declarations};
+ghost use Rattle.text.specs.Kinds.{kind_of};
 ghost use Rattle.naming.specs.Table.{Declared};
-ghost use Rattle.uses.specs.Brackets.{Given};
+ghost use Rattle.uses.specs.Pairs.{Given};
 ghost use Rattle.uses.specs.Uses.{fits, GivenAt, Sees};
 
 use crate::lookup;
-use text::tokens;
-use text::tokens::Token;
+use std::ops::ControlFlow;
+use text::names::Names;
+use text::tokens::{Kind, Token, next_token};
 
-#[derive(Drop)]
-pub enum Seen {
-    Misused(usize),
-    More(usize),
-    Done,
-}
-
-// The arguments of a name; pair i of brackets is the next one.
-pub fn arguments(text: &[u8], given: &[usize], i: usize, t: Token) -> usize
-    requires { (t.to ≤ length text.now) × (i < length given.now) × (t.kind ≡ 2 → GivenAt given.now i (tokens 0 (drop t.to text.now))) }
-    ensures { t.kind ≡ 2 → result ≡ given_arguments (tokens 0 (drop t.to text.now)) }
+// The arguments of a name that ends at `end`; pair i of brackets is the next one.
+pub fn arguments(text: &[u8], given: &[usize; 4096], i: usize, end: usize) -> usize
+    requires { (end ≤ length text.now) × (i < 4096) × GivenAt given.now i (tokens 0 (drop end text.now)) }
+    ensures { result ≡ given_arguments (tokens 0 (drop end text.now)) }
 {
-    if t.kind != 2 {
-        return 0;
+    match next_token(text, end).kind {
+        Kind::Opening => given[i],
+        _ => 0,
     }
-    let after = tokens::next_token(text, t.to);
-    if after.kind == 8 {
-        return given[i];
-    }
-    0
 }
 
 // Whether a token is no name, or one that is used well.
-fn fine(
-    text: &[u8],
-    froms: &[usize],
-    tos: &[usize],
-    heads: &[u16],
-    befores: &[u16],
-    symbols: &[u16],
-    n: usize,
-    given: &[usize],
-    i: usize,
-    t: Token,
-) -> bool
-    requires from_le_to { (t.from ≤ t.to) × (t.to ≤ length text.now) × (unread item (tokens 0 text.now) ≡ none) }
-    requires declared { Declared text.now froms.now tos.now heads.now befores.now symbols.now n }
-    requires i_in_bounds { (i < length given.now) × (t.kind ≡ 2 → GivenAt given.now i (tokens 0 (drop t.to text.now))) }
-    ensures { result ≡ fits (text_declarations text.now) t.kind (slice t.from t.to text.now) (tokens 0 (drop t.to text.now)) }
+fn fine(names: &Names, given: &[usize; 4096], i: usize, t: Token) -> bool
+    requires token { (t.from ≤ t.to) × (t.to ≤ length names.now.text) × (unread item (tokens 0 names.now.text) ≡ none) }
+    requires declared { Declared names.now }
+    requires given { (i < 4096) × (t.kind ≡ Kind.Name → GivenAt given.now i (tokens 0 (drop t.to names.now.text))) }
+    ensures { result ≡ fits (text_declarations names.now.text) (kind_of t.kind) (slice_range names.now.text t.from t.to) (tokens 0 (drop t.to names.now.text)) }
 {
-    if t.kind != 2 {
+    let Kind::Name = t.kind else {
         return true;
-    }
-    let k = arguments(text, given, i, t);
-    lookup::takes(
-        text, froms, tos, heads, befores, symbols, n, t.from, t.to, k,
-    )
+    };
+    let text = names.text();
+    let k = arguments(text, given, i, t.to);
+    lookup::takes(names, &text[t.from..t.to], k)
 }
 
-// One pair more, after an opening bracket.
-pub fn pairs(kind: u8, i: usize) -> usize
+// The pairs passed, with a token of that kind.
+pub fn passed(kind: Kind, i: usize) -> usize
     requires { i < 4096 }
-    ensures { (kind ≡ 8 → result ≡ i + 1) × ((kind ≡ 8 → ⊥) → result ≡ i) }
+    ensures { (kind ≡ Kind.Opening → result ≡ i + 1) × ((kind ≡ Kind.Opening → ⊥) → result ≡ i) }
 {
-    if kind == 8 {
-        return i + 1;
+    match kind {
+        Kind::Opening => i + 1,
+        _ => i,
     }
-    i
 }
 
 // The names from `start` on, as far as their arguments are given.
 pub fn in_table(
-    text: &[u8],
-    froms: &[usize],
-    tos: &[usize],
-    heads: &[u16],
-    befores: &[u16],
-    symbols: &[u16],
-    n: usize,
+    names: &Names,
     start: usize,
-    given: &[usize],
-) -> Seen
-    requires start_in_bounds { (start ≤ length text.now) × (unread item (tokens 0 text.now) ≡ none) }
-    requires declared { Declared text.now froms.now tos.now heads.now befores.now symbols.now n }
-    requires in_bounds { (4096 ≤ length given.now) × Given (tokens 0 (drop start text.now)) given.now }
-    ensures { Sees text.now start result }
+    given: &[usize; 4096],
+) -> ControlFlow<Option<usize>, usize>
+    requires start { (start ≤ length names.now.text) × (unread item (tokens 0 names.now.text) ≡ none) }
+    requires declared { Declared names.now }
+    requires given { Given (tokens 0 (drop start names.now.text)) given.now }
+    ensures { Sees names.now.text start result }
 {
+    let text = names.text();
     let mut at = start;
     let mut i = 0;
+    // No `for`: the place moves by a token's length, and i only at brackets.
     while i < 4096 {
-        let t = tokens::next_token(text, at);
-        let kind = t.kind;
-        if !fine(text, froms, tos, heads, befores, symbols, n, given, i, t) {
-            return Seen::Misused(t.from);
+        let t = next_token(text, at);
+        if !fine(names, given, i, t) {
+            return ControlFlow::Break(Some(t.from));
         }
-        if kind == 1 {
-            return Seen::Done;
+        if let Kind::Ending = t.kind {
+            return ControlFlow::Break(None);
         }
-        i = pairs(kind, i);
+        i = passed(t.kind, i);
         at = t.to;
     }
-    Seen::More(at)
+    ControlFlow::Continue(at)
 }

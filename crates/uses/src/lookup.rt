@@ -1,41 +1,21 @@
 // Names in the table of declarations.
-ghost use Rattle.std.specs.Prelude.{◌≡◌, ◌≤◌, ◌%◌, length};
+ghost use Rattle.std.specs.Prelude.{◌≡◌};
 ghost use Rattle.std.proofs.Math.Option.{none};
-ghost use Rattle.std.proofs.Math.Seq.{slice};
 ghost use Rattle.text_rules.specs.TextTokens.{tokens};
 ghost use Rattle.text_rules.specs.TextGrammar.{item, unread};
 ghost use Rattle.text_rules.specs.Text.{text_declarations};
 ghost use Rattle.naming.specs.Table.{Declared};
 ghost use Rattle.uses.specs.Uses.{takes};
 
-use text::names;
+use text::names::Names;
 
-fn arity(word: u16) -> usize
-    ensures { result ≡ word % 256 }
+// Whether the name of those bytes is declared with that many arguments.
+pub fn takes(names: &Names, bytes: &[u8], arguments: usize) -> bool
+    requires { (unread item (tokens 0 names.now.text) ≡ none) × Declared names.now }
+    ensures { result ≡ takes (text_declarations names.now.text) bytes.now arguments }
 {
-    (word % 256) as usize
-}
-
-// Whether the name from `from` up to `to` is declared with that many arguments.
-pub fn takes(
-    text: &[u8],
-    froms: &[usize],
-    tos: &[usize],
-    heads: &[u16],
-    befores: &[u16],
-    symbols: &[u16],
-    n: usize,
-    from: usize,
-    to: usize,
-    arguments: usize,
-) -> bool
-    requires from_le_to { (from ≤ to) × (to ≤ length text.now) × (unread item (tokens 0 text.now) ≡ none) }
-    requires declared { Declared text.now froms.now tos.now heads.now befores.now symbols.now n }
-    ensures { result ≡ takes (text_declarations text.now) (slice from to text.now) arguments }
-{
-    let j = names::find(text, froms, tos, heads, befores, n, from, to);
-    if j == 0 {
-        return false;
+    match names.find(bytes) {
+        Some(j) => names.get(j).value % 256 == arguments,
+        None => false,
     }
-    arity(symbols[j - 1]) == arguments
 }

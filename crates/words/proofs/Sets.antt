@@ -1,36 +1,24 @@
--- A run of stores, `sets l at xs`: one run after another, one more word at the end or at the front, and what it leaves alone. Assumes nothing.
-use Prim.Native.Nat.{ℕ, suc, ◌+◌, ◌-◌, ◌≤◌, ◌<◌}
+-- A run of stores, `sets l at xs`: one run after another, what it leaves alone, and what a write of a part of a slice leaves. Assumes nothing.
+use Prim.Native.Nat.{ℕ, suc, ◌+◌, ◌-◌, ◌≤◌}
 use mathlib.Core.Path.{◌≡◌, refl, ap, sym, ◌∙◌}
-use mathlib.Core.List.{List, [], ◌∷◌, ◌++◌, reverse, reverse-append}
+use mathlib.Core.List.{List, [], ◌∷◌, ◌++◌, append_assoc}
 use native.Mathlib.Omega.{arith}
 use native.Mathlib.Nat.{add-zero, add-suc, suc-add}
-use native.Mathlib.Numerals.{add-one}
-use lib.ListN.{length, get_or, take, drop, set, length-append, length-drop}
-use lib.Seq.{sets, sets-eq, length-take-le, take-suc, take_at, set_comm, take-set-le, drop-set-lt, get_or-drop}
+use lib.ListN.{length, take, drop, set, length-append, length-drop}
+use lib.Seq.{sets, sets-eq, length-take-le, take_at, take-set-le, drop-set-lt, drop-drop}
+use borrow.Rule.Slice.PartMut.{put_mid}
+use Rattle.std.specs.List.{copy_within}
 
 pub sets-append : (xs ys l : List ℕ) (at : ℕ) → sets (sets l at xs) (at + length xs) ys ≡ sets l at (xs ++ ys)
 sets-append [] ys l at = rw add-zero
 sets-append (x ∷ xs) ys l at = rw (add-suc, ← suc-add) (sets-append xs ys (set l at x) (suc at))
 
--- one more word at the end
-pub sets_more : (l xs : List ℕ) (at i : ℕ) → i < length xs → set (sets l at (take i xs)) (at + i) (get_or xs i 0) ≡ sets l at (take (i + 1) xs)
-sets_more l xs at i h =
-    let e : length (take i xs) ≡ i = length-take-le i xs (omega arith) in
-    rw (add-one, take-suc xs i 0, ← sets-append, e)
-
--- a store before the run
-set-sets : (xs l : List ℕ) (j at v : ℕ) → j < at → set (sets l at xs) j v ≡ sets (set l j v) at xs
-set-sets [] l j at v h = refl
-set-sets (x ∷ xs) l j at v h =
-    set-sets xs (set l at x) j (suc at) v (omega arith) ∙ ap (λ (r : List ℕ). sets r (suc at) xs) (set_comm l at j x v (λ e. omega arith))
-
--- one more word at the front, of a run that goes down from `end`
-pub sets-less : (l xs : List ℕ) (end i : ℕ) → i < length xs → i < end
-    → set (sets l (end - i) (reverse (take i xs))) (end - 1 - i) (get_or xs i 0) ≡ sets l (end - (i + 1)) (reverse (take (i + 1) xs))
-sets-less l xs end i h k =
-    let f : end - i ≡ suc (end - 1 - i) = omega arith in
-    let g : end - (i + 1) ≡ end - 1 - i = omega arith in
-    rw (g, f, add-one, take-suc xs i 0, reverse-append, set-sets (reverse (take i xs)) l (end - 1 - i) (suc (end - 1 - i)) (get_or xs i 0) (omega arith))
+-- a write of the n words from place `at` on
+pub put_sets : (l xs : List ℕ) (at n : ℕ) → at + n ≤ length l → length xs ≡ n → put_mid at n l xs ≡ sets l at xs
+put_sets l xs at n h e =
+    ap (λ (r : List ℕ). take at l ++ (xs ++ r)) (drop-drop n at l ∙ ap (λ (i : ℕ). drop (at + i) l) (sym e))
+    ∙ sym (append_assoc (take at l) xs (drop (at + length xs) l))
+    ∙ sym (sets-eq xs l at (omega arith))
 
 pub take-sets-before : (xs l : List ℕ) (k at : ℕ) → k ≤ at → take k (sets l at xs) ≡ take k l
 take-sets-before [] l k at h = refl
@@ -45,22 +33,11 @@ pub drop-sets : (xs l : List ℕ) (k at : ℕ) → at + length xs ≤ k → drop
 drop-sets [] l k at h = refl
 drop-sets (x ∷ xs) l k at h = drop-sets xs (set l at x) k (suc at) (omega arith) ∙ drop-set-lt k l at x (omega arith)
 
-get_d-sets-past : (xs l : List ℕ) (k at : ℕ) → at + length xs ≤ k → get_or (sets l at xs) k 0 ≡ get_or l k 0
-get_d-sets-past xs l k at h =
-    let first : (r : List ℕ) → get_or (drop k r) 0 0 ≡ get_or r k 0 = λ r. get_or-drop k r 0 0 ∙ ap (λ (n : ℕ). get_or r n 0) (add-zero k) in
-    sym (first (sets l at xs)) ∙ ap (λ (r : List ℕ). get_or r 0 0) (drop-sets xs l k at h) ∙ first l
-
--- the elements from a up to b, d places lower: one more of them
+-- the elements from a up to b, d places lower
 abbrev pub down : ℕ → ℕ → ℕ → List ℕ → List ℕ
 down a b d l = sets l (a - d) (take (b - a) (drop a l))
 
-pub down-more : (l : List ℕ) (a d j : ℕ) → d ≤ a → a ≤ j → j < length l → set (down a j d l) (j - d) (get_or (down a j d l) j 0) ≡ down a (j + 1) d l
-down-more l a d j h k m =
-    let n = length-drop a l in
-    let p : a - d + length (take (j - a) (drop a l)) ≤ j = omega (arith, length-take-le (j - a) (drop a l) (omega arith)) in
-    let i : a + (j - a) ≡ j = omega arith in
-    let y : get_or (drop a l) (j - a) 0 ≡ get_or l j 0 = get_or-drop a l (j - a) 0 ∙ ap (λ (n : ℕ). get_or l n 0) i in
-    let x : get_or (down a j d l) j 0 ≡ get_or (drop a l) (j - a) 0 = get_d-sets-past (take (j - a) (drop a l)) l j (a - d) p ∙ sym y in
-    let e : j - d ≡ a - d + (j - a) = omega arith in
-    let f : j + 1 - a ≡ j - a + 1 = omega arith in
-    rw (x, e, f) (sets_more l (drop a l) (a - d) (j - a) (omega arith))
+pub paste_down : (l : List ℕ) (a b d : ℕ) → d ≤ a → a ≤ b → b ≤ length l → copy_within l a b (a - d) ≡ down a b d l
+paste_down l a b d h k m =
+    let n : length (take (b - a) (drop a l)) ≡ b - a = length-take-le (b - a) (drop a l) (omega (arith, length-drop a l)) in
+    sym (sets-eq (take (b - a) (drop a l)) l (a - d) (omega arith) ∙ rw n)

@@ -6,7 +6,7 @@ use mathlib.Core.List.{List, [], ◌++◌, reverse, reverse-append, reverse-reve
 use native.Mathlib.Omega.{arith}
 use lib.ListN.{length, get_or, take, drop, length-append, length-take, length-drop, length-reverse, take-append-drop}
 use lib.Seq.{sets, take_at, drop_at, take-append-le, length-take-le, take-add}
-use Rattle.words.proofs.Reverse.{rev-parts, get_d-mirrored}
+use Rattle.words.proofs.Reverse.{rev-parts, get_or-mirrored}
 pub use lib.Seq.{length-sets}
 pub use Rattle.words.proofs.Sets.{sets-append, take-sets-before, take-sets, drop-sets, down}
 pub use Rattle.words.proofs.Reverse.{rev}
@@ -114,4 +114,4 @@ pub read_first : (s xs rest : List ℕ) (held n : ℕ) → take held s ≡ rever
 read_first s xs rest held n h k = rw (h, reverse-reverse, take-append-le n xs rest k)
 
 pub read_word : (s ys : List ℕ) (held i : ℕ) → held ≤ length s → take held s ≡ reverse ys → i < held → get_or s (held - 1 - i) 0 ≡ get_or ys i 0
-read_word s ys held i k h l = sym (get_d-mirrored s held i k l) ∙ ap (λ (r : List ℕ). get_or r i 0) (ap reverse h ∙ reverse-reverse ys)
+read_word s ys held i k h l = sym (get_or-mirrored s held i k l) ∙ ap (λ (r : List ℕ). get_or r i 0) (ap reverse h ∙ reverse-reverse ys)

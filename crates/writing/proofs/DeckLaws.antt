@@ -30,8 +30,8 @@ module _ (ws : List ℕ) (o : Opens ws) where
   pub header-fits : header_fits ws ≡ true
   header-fits = (steps-open ws (deck_of ws) o).fits
 
-  pub starts_fit_lem : starts_fit (length (term_cells ws)) (clause_words ws) ≡ true
-  starts_fit_lem = (steps-open ws (deck_of ws) o).starts
+  pub starts-fit : starts_fit (length (term_cells ws)) (clause_words ws) ≡ true
+  starts-fit = (steps-open ws (deck_of ws) o).starts
 
   pub same-symbols : (deck_of ws).symbols ≡ symbols_of (symbol_words ws)
   same-symbols = accepted-symbols ws (deck_of ws) o
@@ -65,7 +65,7 @@ module _ (ws : List ℕ) (o : Opens ws) where
       unfolding clause_of
       row_written = f ∙ part.clause-row ws (deck_of ws) o i h
 
-      pub clause-stands : LiteralsAt symbols row 0 (clause_literals clause_of.clause)
+      pub clause-stands : LiteralsAt symbols row (clause_literals clause_of.clause)
       unfolding write_clause
       clause-stands = record {
         symbols = (deck_of ws).symbols;

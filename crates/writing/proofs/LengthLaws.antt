@@ -1,5 +1,5 @@
 -- The length of the text: of numbers, of a clause by its cells, and of a symbol's line.
-use Prim.Native.Nat.{ℕ, zero, suc, ◌+◌, ◌-◌, ◌/◌, ◌%◌, ◌≤◌, ◌<◌}
+use Prim.Native.Nat.{ℕ, zero, suc, ◌+◌, ◌-◌, ◌*◌, ◌/◌, ◌%◌, ◌^◌, max, ◌≤◌, ◌<◌}
 use mathlib.Core.Path.{◌≡◌, refl, ap, sym, ◌∙◌, subst}
 use mathlib.Core.Option.{Option, none, some, none-ne-some, some-injective}
 use mathlib.Core.Bool.{Bool, true, false}
@@ -7,10 +7,9 @@ use mathlib.Core.List.{List, [], ◌∷◌, ◌++◌}
 use native.Mathlib.Omega.{arith}
 use native.Mathlib.Decide.{dec_lt}
 use lib.Dec.{leb}
-use lib.ListN.{length, get_or, get_elem?, drop, length-append, drop_of_length-le}
-use lib.Seq.{drop-cons}
-use native.Mathlib.Numerals.{add-one}
-use types.Run.{miss}
+use lib.ListN.{length, get_or, get_elem?, length-append}
+use Rattle.std.specs.Prelude.{sum_by, count_by}
+use Rattle.std.proofs.lemmas.List.Recursion.{is_sum_by}
 use Rattle.rules.specs.Terms.{Term, var, app, Terms, nil, cons, count, vars_term, vars_terms}
 use Rattle.rules.specs.Syntax.{Symbol, functor, predicate, Literal, pos, neg, Clause, vars_literals}
 use Rattle.rules.specs.Cells.{Cell, variable, function, positive, negative, invalid, write_term, write_terms, write_literals, symbol_cell, negated_cell, variable_cell, read_cell}
@@ -20,14 +19,14 @@ use Rattle.rules.specs.Listing.{digits, decimal}
 use Rattle.text_rules.specs.TextWriter.{symbol_text, literal_text, literals_text, body_text, clause_text}
 use Rattle.rules.proofs.CellLaws.{Small, Written, cell-written, read_cell-var, after-term, after-terms, cell-symbol, cell-negated, cell-variable}
 use Rattle.deck.specs.Kinds.{symbol_of, kind_of}
-use Rattle.deck.proofs.KindLaws.{Others}
+use Rattle.deck.proofs.KindLaws.{small-variable}
 use Rattle.deck.specs.declared.kinds.Kind.{Kind}
 use Rattle.deck.specs.declared.kinds.Kind.TheVariants.{Variable, Function, Positive, Negative, Invalid}
 use Rattle.listing.specs.Standing.{show_term, show_arguments, show_more}
 use Rattle.listing.specs.Digits.{weight_at}
-use Rattle.listing.proofs.DigitLaws.{weight-positive, decimal-append, one-digit, more-digits}
+use Rattle.listing.proofs.DigitLaws.{weight-positive, power_weight, decimal-append, decimal-length, one-digit, more-digits}
 use Rattle.writing.specs.Writes.{line_text}
-use Rattle.writing.specs.Lengths.{name_bytes, bracket_bytes, cell_bytes, literal_cell, row_bytes, literal_cells, body_bytes, clause_bytes}
+use Rattle.writing.specs.Lengths.{name_bytes, bracket_bytes, cell_bytes, begins_literal, literal_cell, row_bytes, literal_cells, body_bytes, clause_bytes}
 use Rattle.writing.proofs.TextParts.{positive-text, negative-text, no-literals, no_body, literals-parts, body-parts, clause-parts, line-parts, functor-text, predicate-text}
 
 -- A number from ten to the k up to ten to the k + 1 has k + 1 digits.
@@ -43,9 +42,20 @@ pub decimal-many : (k n : ℕ) → weight_at k ≤ n → n < weight_at (suc k) �
 unfolding decimal
 decimal-many k n l h = digits-many k n n [] l h (omega arith) ∙ omega arith
 
-pub decimal-one : (n : ℕ) → n < 10 → length (decimal n []) ≡ 1
+power-one : (k : ℕ) → weight_at k ≤ 1 → k ≡ 0
+power-one zero h = refl
+power-one (suc k) h = absurd (omega (arith, weight-positive k))
+
+-- By the greatest power of ten that is not above the number, or 1 for 0.
+pub decimal-power : (k n : ℕ) → 10 ^ k ≤ max n 1 → max n 1 < 10 * 10 ^ k → length (decimal n []) ≡ k + 1
 unfolding decimal
-decimal-one n h = ap length (one-digit n n [] h)
+decimal-power k n l h = go (dec_lt n 1)
+  where
+    go : Dec (n < 1) → length (decimal n []) ≡ k + 1
+    go (yes z) =
+        let o : weight_at k ≤ 1 = omega (arith, power_weight k) in
+        ap length (one-digit n n [] (omega arith)) ∙ omega (arith, power-one k o)
+    go (no p) = decimal-many k n (omega (arith, power_weight k)) (omega (arith, power_weight k)) ∙ omega arith
 
 decimal-rest : (n : ℕ) (rest : List ℕ) → length (decimal n rest) ≡ length (decimal n []) + length rest
 decimal-rest n rest = ap length (decimal-append n [] rest) ∙ length-append (decimal n []) rest
@@ -228,32 +238,6 @@ module _ (S : List Symbol) where
       go (negative p m) w q = omega (arith, w.0)
       go invalid w q = absurd (let z : ◌≡◌ {A = ℕ} 0 1 = cc in omega arith)
 
--- What the code adds up for a cell.
-module _ (x : Kind) (c k d b : ℕ) where
-  pub variable-bytes : x ≡ Variable k → d ≡ length (decimal k []) → 1 + d ≡ cell_bytes x c
-  variable-bytes e p = ap (1 +◌) p ∙ sym (ap (λ (y : Kind). cell_bytes y c) e)
-
-  pub function-bytes : x ≡ Function k → d ≡ length (decimal c []) → b ≡ bracket_bytes k → 1 + d + b ≡ cell_bytes x c
-  function-bytes e p q = let z : 1 + d + b ≡ name_bytes c + bracket_bytes k = omega (arith, p, q) in z ∙ sym (ap (λ (y : Kind). cell_bytes y c) e)
-
-  pub positive-bytes : x ≡ Positive k → d ≡ length (decimal c []) → b ≡ bracket_bytes k → 3 + d + b ≡ cell_bytes x c
-  positive-bytes e p q = let z : 3 + d + b ≡ 2 + (name_bytes c + bracket_bytes k) = omega (arith, p, q) in z ∙ sym (ap (λ (y : Kind). cell_bytes y c) e)
-
-  pub negative-bytes : x ≡ Negative k → d ≡ length (decimal (c - 16384) []) → b ≡ bracket_bytes k → 4 + d + b ≡ cell_bytes x c
-  negative-bytes e p q =
-      let z : 4 + d + b ≡ 3 + (name_bytes (c - 16384) + bracket_bytes k) = omega (arith, p, q) in z ∙ sym (ap (λ (y : Kind). cell_bytes y c) e)
-
-pub brackets-some : (k : ℕ) → (k ≡ 0 → ⊥) → k + 1 ≡ bracket_bytes k
-brackets-some zero h = absurd (h refl)
-brackets-some (suc k) h = omega arith
-
-pub none-begins : (k : Kind) → Others (0 ∷ 1 ∷ 4 ∷ []) k → literal_cell k ≡ 0
-none-begins (Variable v) h = refl
-none-begins (Function k) h = refl
-none-begins (Positive k) h = absurd (miss (0 ∷ 1 ∷ 4 ∷ []) 2 tt h)
-none-begins (Negative k) h = absurd (miss (0 ∷ 1 ∷ 4 ∷ []) 3 tt h)
-none-begins Invalid h = refl
-
 pub body-none : (n : ℕ) → n < 2 → body_bytes n ≡ 0
 body-none zero h = refl
 body-none (suc zero) h = refl
@@ -264,13 +248,29 @@ body-some zero h = absurd (omega arith)
 body-some (suc zero) h = absurd (omega arith)
 body-some (suc (suc n)) h = refl
 
--- The cells from a place on.
-module _ (S : List Symbol) (cells : List ℕ) (i : ℕ) where
-  pub cells-next :
-      i < length cells → let c = get_or cells i 0 in
-      (row_bytes S (drop i cells) ≡ cell_bytes (kind_of (read_cell S c)) c + row_bytes S (drop (i + 1) cells))
-      × (literal_cells S (drop i cells) ≡ literal_cell (kind_of (read_cell S c)) + literal_cells S (drop (i + 1) cells))
-  cells-next h = (rw (add-one i) (ap (row_bytes S) (drop-cons cells i 0 h)), rw (add-one i) (ap (literal_cells S) (drop-cons cells i 0 h)))
+-- The shares of cells as a sum, and the literals that begin as a count.
+module _ (S : List Symbol) where
+  pub row-sum : (cells : List ℕ) → row_bytes S cells ≡ sum_by (λ c. cell_bytes (kind_of (read_cell S c)) c) cells
+  row-sum = is_sum_by (row_bytes S) (λ c. cell_bytes (kind_of (read_cell S c)) c) refl (λ c cells. refl)
 
-  pub cells-end : length cells ≤ i → (row_bytes S (drop i cells) ≡ 0) × (literal_cells S (drop i cells) ≡ 0)
-  cells-end h = (ap (row_bytes S) (drop_of_length-le cells {i = i} h), ap (literal_cells S) (drop_of_length-le cells {i = i} h))
+  pub literals-count : (cells : List ℕ) → literal_cells S cells ≡ count_by (λ c. begins_literal (kind_of (read_cell S c))) cells
+  literals-count = is_sum_by (literal_cells S) (λ c. literal_cell (kind_of (read_cell S c))) refl (λ c cells. refl)
+
+  -- A share is at most 32 bytes.
+  brackets-short : (k : ℕ) → k ≤ 15 → bracket_bytes k ≤ 16
+  brackets-short zero h = omega arith
+  brackets-short (suc k) h = omega arith
+
+  share-short : All WfSymbol S → (c : ℕ) → c < 65536 → cell_bytes (kind_of (read_cell S c)) c ≤ 32
+  share-short w c h = go (kind_of (read_cell S c)) refl (known-arity S w c)
+    where
+      go : (k : Kind) → kind_of (read_cell S c) ≡ k → arity_of k ≤ 15 → cell_bytes k c ≤ 32
+      go (Variable v) e a = omega (arith, decimal-length 4 v (omega (arith, small-variable S c v e)))
+      go (Function k) e a = omega (arith, decimal-length 4 c (omega arith), brackets-short k a)
+      go (Positive k) e a = omega (arith, decimal-length 4 c (omega arith), brackets-short k a)
+      go (Negative k) e a = omega (arith, decimal-length 4 (c - 16384) (omega arith), brackets-short k a)
+      go Invalid e a = omega arith
+
+  pub row-short : All WfSymbol S → (cells : List ℕ) → ((i : ℕ) → get_or cells i 0 < 65536) → row_bytes S cells ≤ 32 * length cells
+  row-short w [] h = omega arith
+  row-short w (c ∷ cells) h = omega (arith, share-short w c (h 0), row-short w cells (λ i. h (suc i)))

@@ -20,7 +20,7 @@ use Rattle.rules.proofs.DeckLaws.{opened-written}
 use Rattle.text_rules.proofs.TextRead.{text-again, text-readable, text-words}
 use Rattle.deck.specs.Answers.{refusal_for}
 use Rattle.deck.specs.declared.Refusal.{Refusal as Why}
-use Rattle.writing.specs.declared.Written.TheVariants.{Refused, Bytes}
+use Rattle.std.specs.Prelude.{Ok, Err}
 use Rattle.writing.specs.Writes.{bytes_of, text_after, Wrote}
 use Rattle.writing.specs.contracts.write_text.{signature, ended}
 use Rattle.writing.proofs.write_text.Reads.{Post}
@@ -106,11 +106,11 @@ decks-apart words words' d d' o o' e =
 
 -- The same of the generated reading of the contract (`Post`).
 module _ (κs : Lfts 2) (entry : ArgsD signature κs) (exit : AtExit ended κs) where
-  pub public-refused-untouched : (why : Why) → Post κs entry (Refused why) exit → exit.1.0.now ≡ entry.1.0.now
+  pub public-refused-untouched : (why : Why) → Post κs entry (Err why) exit → exit.1.0.now ≡ entry.1.0.now
   public-refused-untouched why post = refused-untouched entry.0.now entry.1.0.now (refusal_for why) exit.1.0.now post
 
-  pub public-read-again : (n : ℕ) → Post κs entry (Bytes n) exit → (room : ℕ) → length entry.0.now ≤ room → read_text (take n exit.1.0.now) room ≡ accepted entry.0.now
+  pub public-read-again : (n : ℕ) → Post κs entry (Ok n) exit → (room : ℕ) → length entry.0.now ≤ room → read_text (take n exit.1.0.now) room ≡ accepted entry.0.now
   public-read-again n post = read_again entry.0.now entry.1.0.now n exit.1.0.now post
 
-  pub public-untouched : (n : ℕ) → Post κs entry (Bytes n) exit → drop n exit.1.0.now ≡ drop n entry.1.0.now
+  pub public-untouched : (n : ℕ) → Post κs entry (Ok n) exit → drop n exit.1.0.now ≡ drop n entry.1.0.now
   public-untouched n post = behind entry.0.now entry.1.0.now n exit.1.0.now post

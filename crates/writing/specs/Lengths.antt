@@ -1,5 +1,5 @@
 -- The length of a clause's text by its cells.
-use Rattle.std.specs.Prelude.{ℕ, zero, suc, ◌+◌, ◌-◌, List, [], ◌∷◌, length}
+use Rattle.std.specs.Prelude.{ℕ, zero, suc, ◌+◌, ◌-◌, Bool, true, false, List, [], ◌∷◌, length, cond}
 use Rattle.rules.specs.Syntax.{Symbol}
 use Rattle.rules.specs.Cells.{read_cell}
 use Rattle.rules.specs.WellFormed.{All, WfSymbol}
@@ -28,12 +28,16 @@ cell_bytes (Positive k) c = 2 + (name_bytes c + bracket_bytes k)
 cell_bytes (Negative k) c = 3 + (name_bytes (c - 16384) + bracket_bytes k)
 cell_bytes Invalid c = 0
 
+-- Whether a literal begins with a cell.
+abbrev pub begins_literal : Kind → Bool
+begins_literal (Variable v) = false
+begins_literal (Function k) = false
+begins_literal (Positive k) = true
+begins_literal (Negative k) = true
+begins_literal Invalid = false
+
 abbrev pub literal_cell : Kind → ℕ
-literal_cell (Variable v) = 0
-literal_cell (Function k) = 0
-literal_cell (Positive k) = 1
-literal_cell (Negative k) = 1
-literal_cell Invalid = 0
+literal_cell k = cond (begins_literal k) 1 0
 
 abbrev pub row_bytes : List Symbol → List ℕ → ℕ
 row_bytes S [] = 0

@@ -1,18 +1,17 @@
 -- What writing a deck as text promises (document 02, U1).
-use Rattle.std.specs.Prelude.{ℕ, ◌≡◌, List, [], ◌∷◌, ◌++◌, length, drop}
+use Rattle.std.specs.Prelude.{ℕ, ◌≡◌, List, [], ◌∷◌, ◌++◌, length, drop, Result, Ok, Err}
 use Rattle.rules.specs.Syntax.{Deck}
 use Rattle.rules.specs.Refusals.{Checked, refused, accepted}
 use Rattle.rules.specs.Decks.{open_deck}
 use Rattle.rules.specs.Listing.{decimal}
 use Rattle.text_rules.specs.Text.{write_text}
+use Rattle.deck.specs.declared.Refusal.{Refusal}
 use Rattle.deck.specs.Answers.{refusal_for}
-use Rattle.writing.specs.declared.Written.{Written}
-use Rattle.writing.specs.declared.Written.TheVariants.{Refused, Bytes}
 
 -- What the call returns, in the rules' words; and the number of bytes that the rules say.
-abbrev pub result_of : Written → Checked ℕ
-result_of (Refused why) = refused (refusal_for why)
-result_of (Bytes n) = accepted n
+abbrev pub result_of : Result ℕ Refusal → Checked ℕ
+result_of (Err why) = refused (refusal_for why)
+result_of (Ok n) = accepted n
 
 unfoldable pub bytes_of : Checked (List ℕ) → Checked ℕ
 bytes_of (refused n) = refused n

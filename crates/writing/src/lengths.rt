@@ -1,16 +1,15 @@
 // How long a deck's text is, before a byte of it is written. A clause's text is as long as the shares of its cells.
-ghost use Rattle.std.specs.Prelude.{◌+◌, ◌<◌, ◌≤◌, ◌≡◌, [], length};
+ghost use Rattle.std.specs.Prelude.{sum_by, count_by, ◌+◌, ◌<◌, ◌≤◌, ◌≡◌, [], length};
 ghost use Rattle.rules.specs.Cells.{read_cell};
 ghost use Rattle.rules.specs.Listing.{decimal};
 ghost use Rattle.text_rules.specs.TextWriter.{symbol_text, symbols_text, clauses_text, deck_text};
 ghost use Rattle.deck.specs.Kinds.{symbol_of, symbols_of, kind_of};
 ghost use Rattle.signature.specs.Symbols.{symbol_count, symbol_word};
-ghost use Rattle.writing.specs.Lengths.{KnownSymbols, bracket_bytes, cell_bytes, literal_cell, clause_bytes};
+ghost use Rattle.writing.specs.Lengths.{KnownSymbols, bracket_bytes, cell_bytes, row_bytes, begins_literal, clause_bytes};
 ghost use Rattle.writing.specs.Writes.{Opens, deck_of};
 
 use deck::kinds::Kind;
 use deck::{kinds, parts};
-use words::wide;
 
 pub fn deck_length(deck: &[u16]) -> usize
     requires { Opens deck.now }
@@ -24,10 +23,8 @@ fn symbols_length(symbols: &[u16]) -> usize
     ensures { (result ≡ length (symbols_text 0 (symbols_of symbols.now) [])) × (result ≤ 69632) }
 {
     let mut bytes = 0;
-    let mut i = 0;
-    while i < symbols.len() {
-        bytes += symbol_length(symbols, i);
-        i += 1;
+    for n in 0..symbols.len() {
+        bytes += symbol_length(symbols, n);
     }
     bytes
 }
@@ -47,10 +44,8 @@ fn clauses_length(deck: &[u16]) -> usize
     let symbols = parts::symbols(deck);
     let count = parts::clause_count(deck);
     let mut bytes = 0;
-    let mut i = 0;
-    while i < count {
+    for i in 0..count {
         bytes += clause_length(symbols, parts::clause(deck, i));
-        i += 1;
     }
     bytes
 }
@@ -60,26 +55,26 @@ fn clause_length(symbols: &[u16], cells: &[u16]) -> usize
     requires { KnownSymbols symbols.now × (length cells.now ≤ 256) }
     ensures { (result ≡ clause_bytes (symbols_of symbols.now) cells.now) × (result ≤ 8194) }
 {
-    let mut bytes = 0;
-    let mut literals = 0;
-    let mut i = 0;
-    while i < cells.len() {
-        let cell = cells[i];
-        bytes += cell_length(symbols, cell);
-        literals += begins(symbols, cell);
-        i += 1;
-    }
-    if literals < 2 {
+    let bytes = row_length(symbols, cells);
+    if literal_count(symbols, cells) < 2 {
         return bytes;
     }
     bytes + 2
+}
+
+// The shares of cells together.
+fn row_length(symbols: &[u16], cells: &[u16]) -> usize
+    requires { KnownSymbols symbols.now × (length cells.now ≤ 256) }
+    ensures { result ≡ sum_by (λ c. cell_bytes (kind_of (read_cell (symbols_of symbols.now) c)) c) cells.now }
+{
+    cells.iter().map(|cell| cell_length(symbols, *cell)).sum()
 }
 
 fn cell_length(symbols: &[u16], cell: u16) -> usize
     requires { KnownSymbols symbols.now }
     ensures { (result ≡ cell_bytes (kind_of (read_cell (symbols_of symbols.now) cell)) cell) × (result ≤ 32) }
 {
-    let c = wide(cell);
+    let c = usize::from(cell);
     match kinds::read(symbols, cell) {
         Kind::Variable(v) => 1 + digits(v),
         Kind::Function(k) => 1 + digits(c) + brackets(k),
@@ -89,15 +84,21 @@ fn cell_length(symbols: &[u16], cell: u16) -> usize
     }
 }
 
-// 1 for the first cell of a literal.
-fn begins(symbols: &[u16], cell: u16) -> usize
-    ensures { (result ≡ literal_cell (kind_of (read_cell (symbols_of symbols.now) cell))) × (result ≤ 1) }
+// How many literals begin in the cells.
+fn literal_count(symbols: &[u16], cells: &[u16]) -> usize
+    ensures { result ≡ count_by (λ c. begins_literal (kind_of (read_cell (symbols_of symbols.now) c))) cells.now }
 {
-    match kinds::read(symbols, cell) {
-        Kind::Positive(_) => 1,
-        Kind::Negative(_) => 1,
-        _ => 0,
-    }
+    cells.iter().filter(|cell| begins(symbols, **cell)).count()
+}
+
+// Whether a literal begins with the cell.
+fn begins(symbols: &[u16], cell: u16) -> bool
+    ensures { result ≡ begins_literal (kind_of (read_cell (symbols_of symbols.now) cell)) }
+{
+    matches!(
+        kinds::read(symbols, cell),
+        Kind::Positive(_) | Kind::Negative(_)
+    )
 }
 
 // The brackets around so many arguments, and the commas between them.
@@ -115,17 +116,5 @@ fn digits(n: usize) -> usize
     requires { n < 100000 }
     ensures { (result ≡ length (decimal n [])) × (result ≤ 5) }
 {
-    if n < 10 {
-        return 1;
-    }
-    if n < 100 {
-        return 2;
-    }
-    if n < 1000 {
-        return 3;
-    }
-    if n < 10000 {
-        return 4;
-    }
-    5
+    n.max(1).ilog10() as usize + 1
 }

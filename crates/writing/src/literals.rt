@@ -1,66 +1,47 @@
 // Literals, written from the cells that they stand in.
 ghost use Rattle.std.specs.Prelude.{[]};
 ghost use Rattle.text_rules.specs.TextWriter.{literals_text, body_text};
-ghost use Rattle.writing.specs.Literals.{AtomFits, AtomWritten, LiteralFits, LiteralWritten, LiteralsFit, LiteralsWritten};
+ghost use Rattle.writing.specs.Literals.{LiteralFits, LiteralWritten, LiteralsFit, LiteralsWritten};
 
-use listing::terms::{Places, put_applied};
-use listing::text::put;
-use words::word;
+use listing::output::Output;
+use listing::terms::{next, put_applied};
 
-// Writes ` :- ` and the literals from `from` to the end of the row, where there are any.
-pub fn put_body(out: &mut [u8], at: usize, cells: &[u16], from: usize, symbols: &[u16]) -> usize
-    requires { LiteralsFit symbols.now cells.now from (λ ls. body_text ls []) out.old at }
-    ensures { LiteralsWritten symbols.now cells.now from (λ ls. body_text ls []) out.old at result out.new }
+// Writes ` :- ` and the literals whose cells the row holds, where there are any.
+pub fn put_body(out: &mut Output, row: &[u16], symbols: &[u16])
+    requires { LiteralsFit symbols.now row.now (λ ls. body_text ls []) out.old }
+    ensures { LiteralsWritten symbols.now row.now (λ ls. body_text ls []) out.old out.new }
 {
-    if cells.len() <= from {
-        return at;
+    if row.is_empty() {
+        return;
     }
-    let p = put(out, at, b" :- ");
-    let first = put_literal(out, p, cells, from, symbols);
-    put_others(out, first.at, cells, first.from, symbols)
+    let mut cells = row;
+    out.put(b" :- ");
+    put_literal(out, &mut cells, symbols);
+    put_others(out, cells, symbols);
 }
 
-// Writes the literals from `from` to the end of the row, each after a comma and a space.
-fn put_others(out: &mut [u8], at: usize, cells: &[u16], from: usize, symbols: &[u16]) -> usize
-    requires { LiteralsFit symbols.now cells.now from (λ ls. literals_text ls []) out.old at }
-    ensures { LiteralsWritten symbols.now cells.now from (λ ls. literals_text ls []) out.old at result out.new }
+// Writes the literals whose cells the row holds, each after a comma and a space.
+// The cells move on by a literal's size, so the loop is no `for`.
+fn put_others(out: &mut Output, row: &[u16], symbols: &[u16])
+    requires { LiteralsFit symbols.now row.now (λ ls. literals_text ls []) out.old }
+    ensures { LiteralsWritten symbols.now row.now (λ ls. literals_text ls []) out.old out.new }
 {
-    let mut p = at;
-    let mut cell = from;
-    while cell < cells.len() {
-        let q = put(out, p, b", ");
-        let literal = put_literal(out, q, cells, cell, symbols);
-        p = literal.at;
-        cell = literal.from;
+    let mut cells = row;
+    while !cells.is_empty() {
+        out.put(b", ");
+        put_literal(out, &mut cells, symbols);
     }
-    p
 }
 
-// Writes the literal at `from`.
-pub fn put_literal(out: &mut [u8], at: usize, cells: &[u16], from: usize, symbols: &[u16]) -> Places
-    requires { LiteralFits symbols.now cells.now from out.old at }
-    ensures { LiteralWritten symbols.now cells.now from out.old at result.at result.from out.new }
+// Writes the literal at the front of the cells, and passes them.
+pub fn put_literal(out: &mut Output, cells: &mut &[u16], symbols: &[u16])
+    requires { LiteralFits symbols.now cells.old.now out.old }
+    ensures { LiteralWritten symbols.now cells.old.now out.old out.new cells.new.now }
 {
-    let cell = word(cells, from);
+    let cell = next(cells);
     if 16384 <= cell {
-        out[at] = b'~';
-        return put_atom(out, at + 1, cells, from + 1, cell - 16384, symbols);
+        out.put(b"~");
+        return put_applied(out, cells, cell - 16384, symbols, b'_');
     }
-    put_atom(out, at, cells, from + 1, cell, symbols)
-}
-
-// Writes a predicate with its arguments, whose cells begin at `from`.
-fn put_atom(
-    out: &mut [u8],
-    at: usize,
-    cells: &[u16],
-    from: usize,
-    predicate: usize,
-    symbols: &[u16],
-) -> Places
-    requires { AtomFits symbols.now cells.now from predicate out.old at }
-    ensures { AtomWritten symbols.now cells.now from predicate out.old at result.at result.from out.new }
-{
-    let arity = signature::arity(symbols, predicate);
-    put_applied(out, at, cells, from, predicate, arity, symbols, b'_')
+    put_applied(out, cells, cell, symbols, b'_');
 }

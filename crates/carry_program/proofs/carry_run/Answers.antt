@@ -1,34 +1,46 @@
--- `carry_run`: the numbers and the goals' words are read, and the contract of the run that carries on gives what is printed.
-use mathlib.Core.Path.{◌≡◌, refl}
-use native.Mathlib.Omega.{arith}
-use lib.ListN.{length, drop}
+-- The numbers and the goals' words are read, and the contract of the run that carries on gives what is printed.
+use Rattle.std.proofs.Common.{rules, ◌≡◌, ℕ, drop, refl, sym, subst, arith}
+use Rattle.std.proofs.lemmas.Grind.{common_steps}
+use Rattle.rules.specs.Refusals.{accepted}
+use Rattle.report.specs.Reports.{report_of}
+use Rattle.std.proofs.lemmas.Result.{err_from_is_err_and}
 use Rattle.rules.specs.Program.{words_from}
 use Rattle.rules.specs.CarryProgram.{store_from, carry_bytes}
-use Rattle.top_level.proofs.StoredLaws.{part-all}
 use Rattle.listing.proofs.PutLaws.{put-length}
-use Rattle.carry_program.proofs.RunLaws.{goals-stored, carry-ended}
+use Rattle.carry_program.specs.Finished.{Finished}
+use Rattle.carry_program.proofs.RunLaws.{goals-stored, numbered, carry-refused, carry-done}
 use Rattle.carry_program.proofs.carry_run.Goals as goal
-use Rattle.carry_program.proofs.carry_run.Goals.{After-read_words}
+use Rattle.carry_program.proofs.carry_run.Goals.{After-read_words, In_ok-report}
 
 -- The store after the goals' words are read.
-filled : (c : goal.After-read_words) → c.read_words.new.words ≡ store_from (words_from (drop 24 c.args.goals.now))
-filled c = let a = c.args in goals-stored a.goals.now _ (part-all a.goals.now 24 (omega arith)) c.requires.1 c.read_words.ensures
+filled : (c : After-read_words) → c.read_words.new.words ≡ store_from (words_from (drop 24 c.args.goals.now))
+filled c = let a = c.args in goals-stored a.goals.now _ (grind (arith, common_steps)) c.requires.1 c.read_words.ensures
 
-full : (c : goal.After-read_words) → length c.read_words.new.words ≡ 16384
-full c = put-length c.read_words.ensures
-
-pub ended-requires : goal.ended-requires
-ended-requires c =
+finished :
+    (c : In_ok-report) → let a = c.args in
+    Finished (carry_bytes a.deck.now a.goals.now a.budget) a.deck.now c.number-terms.result c.carry_on.new.answers c.carry_on.new.store c.in_ok-report.report
+finished c =
     let a = c.args in
-    let r = c.carry_on-ran in
-    let e = carry-ended a.deck.now a.goals.now a.budget _ _ (record { answers = refl; store = full (goal.at.ended-requires c).After-read_words; scratch = refl }) (filled (goal.at.ended-requires c).After-read_words) r.result _ _ _ c.number-pending.ensures c.number-parked.ensures c.number-terms.ensures r.ensures in
-    record {
-      answers_len_bound = (omega (arith, r.auto.answers), omega (arith, r.auto.store, full (goal.at.ended-requires c).After-read_words));
-      some_ended = (carry_bytes a.deck.now a.goals.now a.budget, e);
-    }
+    let result = accepted (report_of c.in_ok-report.report) in
+    let f = filled (goal.at.In_ok-report c).After-read_words in
+    subst (λ (n : ℕ). Finished (carry_bytes a.deck.now a.goals.now a.budget) a.deck.now n c.carry_on.new.answers c.carry_on.new.store c.in_ok-report.report) (sym c.number-terms.ensures)
+    (carry-done a.deck.now a.goals.now a.budget _ _ (record { answers = refl; store = put-length c.read_words.ensures; scratch = refl }) f c.in_ok-report.report
+    (numbered a.deck.now a.goals.now a.budget _ _ _ c.number-pending.ensures c.number-parked.ensures c.number-terms.ensures result _ _ c.in_ok-report.ensures))
+
+pub returns-in_err-report : goal.returns-in_err-report
+returns-in_err-report c =
+    let a = c.args in
+    let p = err_from_is_err_and c.from_residual.result c.from_residual.ensures.1 in
+    let f = filled (goal.at.returns-in_err-report c).After-read_words in
+    rw (p.1, p.2) (
+      carry-refused a.deck.now a.goals.now a.budget _ _ (record { answers = refl; store = put-length c.read_words.ensures; scratch = refl }) f _
+          (numbered a.deck.now a.goals.now a.budget _ _ _ c.number-pending.ensures c.number-parked.ensures c.number-terms.ensures _ _ _ c.in_err-report.ensures),
+      search rules,
+      search rules,
+    )
+
+pub put-requires : goal.put-requires
+put-requires c = (_, finished (goal.at.put-requires c).In_ok-report)
 
 pub returns : goal.returns
-returns c =
-    let a = c.args in
-    let r = c.carry_on-ran in
-    c.ended.ensures (carry_bytes a.deck.now a.goals.now a.budget) (carry-ended a.deck.now a.goals.now a.budget _ _ (record { answers = refl; store = full (goal.at.returns c).After-read_words; scratch = refl }) (filled (goal.at.returns c).After-read_words) r.result _ _ _ c.number-pending.ensures c.number-parked.ensures c.number-terms.ensures r.ensures)
+returns c = c.put.ensures _ (finished (goal.at.returns c).In_ok-report)

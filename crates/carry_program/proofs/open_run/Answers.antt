@@ -1,22 +1,27 @@
--- `open_run`: the run's contract, on the program's buffers, gives what is printed.
-use mathlib.Core.Path.{refl}
-use native.Mathlib.Omega.{arith}
+-- The run's contract, on the program's buffers, gives what is printed.
+use Rattle.std.proofs.Common.{rules, refl}
+use Rattle.std.proofs.lemmas.Result.{err_from_is_err_and}
 use Rattle.rules.specs.CarryProgram.{open_words}
-use Rattle.carry_program.proofs.RunLaws.{open-ended}
+use Rattle.carry_program.specs.Finished.{Finished}
+use Rattle.carry_program.proofs.RunLaws.{open-refused, open_done}
 use Rattle.carry_program.proofs.open_run.Goals as goal
+use Rattle.carry_program.proofs.open_run.Goals.{In_ok-report}
 
-pub ended-requires : goal.ended-requires
-ended-requires c =
-    let r = c.run-ran in
+finished :
+    (c : In_ok-report) → let a = c.args in
+    Finished (open_words a.deck.now a.query.now a.budget) a.deck.now c.variables-terms.result c.run.new.answers c.run.new.store c.in_ok-report.report
+finished c =
     let a = c.args in
-    let e = open-ended a.deck.now a.query.now a.budget _ _ (record { answers = refl; store = refl; scratch = refl }) r.result _ c.variables-terms.ensures r.ensures in
-    record {
-      answers_len_bound = (omega (arith, r.auto.answers), omega (arith, r.auto.store));
-      some_ended = (open_words a.deck.now a.query.now a.budget, e);
-    }
+    open_done a.deck.now a.query.now a.budget _ _ (record { answers = refl; store = refl; scratch = refl }) c.in_ok-report.report _ c.variables-terms.ensures c.in_ok-report.ensures
+
+pub returns-in_err-report : goal.returns-in_err-report
+returns-in_err-report c =
+    let a = c.args in
+    let p = err_from_is_err_and c.from_residual.result c.from_residual.ensures.1 in
+    rw (p.1, p.2) (open-refused a.deck.now a.query.now a.budget _ _ (record { answers = refl; store = refl; scratch = refl }) _ c.in_err-report.ensures, search rules, search rules)
+
+pub put-requires : goal.put-requires
+put-requires c = (_, finished (goal.at.put-requires c).In_ok-report)
 
 pub returns : goal.returns
-returns c =
-    let r = c.run-ran in
-    let a = c.args in
-    c.ended.ensures (open_words a.deck.now a.query.now a.budget) (open-ended a.deck.now a.query.now a.budget _ _ (record { answers = refl; store = refl; scratch = refl }) r.result _ c.variables-terms.ensures r.ensures)
+returns c = c.put.ensures _ (finished (goal.at.returns c).In_ok-report)

@@ -9,8 +9,8 @@ pub clause-requires : goal.clause-requires
 clause-requires c =
     let o = steps-open c.args.deck.now c.requires.0.deck c.requires.0.opens in
     record {
-      deck_value = o.fits;
-      deck_value_2 = o.starts;
+      header = o.fits;
+      in_order = o.starts;
       i_in_bounds = c.requires.1;
     }
 

@@ -3,8 +3,9 @@ use Prim.Native.Nat.{ℕ, ◌≤◌}
 use mathlib.Core.Bool.{Bool}
 use mathlib.Core.List.{List}
 use lib.ListN.{length}
-use Rattle.deck.specs.declared.Checked.{Checked}
-use Rattle.deck.specs.declared.Checked.TheVariants.{Accepted}
+use Rattle.std.specs.Prelude.{Result, Ok}
+use Rattle.std.proofs.lemmas.Result.{err_from_is_err_and}
+use Rattle.deck.specs.declared.Refusal.{Refusal}
 use mathlib.Core.Path.{◌≡◌, ap, sym, ◌∙◌}
 use borrow.Author.Tests.{le-leb, lt-leb}
 use Rattle.rules.specs.Cells.{read_literals}
@@ -17,7 +18,7 @@ use Rattle.deck.proofs.OpenLaws.{passes, fails, literals_number, refused-query, 
 use Rattle.deck.proofs.check.Goals as goal
 
 -- The deck was accepted.
-accepted : (ws : List ℕ) (r : Checked) → number_of r ≡ checked_number (open_deck ws) → r ≡ Accepted → checked_number (open_deck ws) ≡ 0
+accepted : (ws : List ℕ) (r : Result (Unit {0}) Refusal) → number_of r ≡ checked_number (open_deck ws) → r ≡ Ok tt → checked_number (open_deck ws) ≡ 0
 accepted ws r e a = sym e ∙ ap number_of a
 
 -- The query is not too long.
@@ -31,22 +32,23 @@ literals-test :
 literals-test ws qs words r w e = rw (← w) (sym e)
 
 pub returns-then-query-gt500 : goal.returns-then-query-gt500
-returns-then-query-gt500 c = sym (accepted-query _ _ (accepted _ _ c.«open».ensures c.in-Accepted.is) ∙ fails _ 6 _ (lt-leb _ 500 c.if-query-gt500.true))
+returns-then-query-gt500 c = sym (accepted-query _ _ (accepted _ _ c.«open».ensures c.in_ok-open.was) ∙ fails _ 6 _ (lt-leb _ 500 c.if-query-gt500.true))
 
 pub symbols-requires : goal.symbols-requires
-symbols-requires c = accepted-header _ (accepted _ _ c.«open».ensures c.in-Accepted.is)
+symbols-requires c = accepted-header _ (accepted _ _ c.«open».ensures c.in_ok-open.was)
 
 pub returns-then-not-literals : goal.returns-then-not-literals
 returns-then-not-literals c =
-    sym (after-length _ _ (accepted _ _ c.«open».ensures c.in-Accepted.is) c.if-query-gt500.false
+    sym (after-length _ _ (accepted _ _ c.«open».ensures c.in_ok-open.was) c.if-query-gt500.false
     ∙ fails _ 7 _ (literals-test _ _ _ _ c.symbols.ensures c.literals.ensures ∙ c.if-not-literals.true))
 
-pub returns-in-Refused : goal.returns-in-Refused
-returns-in-Refused c =
+pub returns-in_err-open : goal.returns-in_err-open
+returns-in_err-open c =
     let a = c.args in
-    sym (refused-query a.deck.now a.query.now _ (sym c.«open».ensures ∙ ap number_of c.in-Refused.is) (refused-number c.in-Refused.why))
+    let p = err_from_is_err_and c.from_residual.result c.from_residual.ensures.1 in
+    rw (p.1, p.2) (sym (refused-query a.deck.now a.query.now _ (sym c.in_err-open.ensures) (refused-number c.in_err-open.field-0.0)))
 
-pub returns-else-not-literals : goal.returns-else-not-literals
-returns-else-not-literals c =
-    sym (after-length _ _ (accepted _ _ c.«open».ensures c.in-Accepted.is) c.if-query-gt500.false
+pub returns : goal.returns
+returns c =
+    sym (after-length _ _ (accepted _ _ c.«open».ensures c.in_ok-open.was) c.if-query-gt500.false
     ∙ passes _ 7 _ (literals-test _ _ _ _ c.symbols.ensures c.literals.ensures ∙ c.if-not-literals.false))

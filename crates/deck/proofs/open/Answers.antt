@@ -4,17 +4,20 @@ use mathlib.Core.Bool.{Bool, true}
 use mathlib.Core.List.{List}
 use Prim.Native.Nat.{ℕ}
 use lib.ListN.{length}
+use Rattle.std.specs.List.{list_all}
 use Rattle.rules.specs.Refusals.{checked_number}
 use Rattle.rules.specs.Decks.{header_fits, symbol_words, clause_words, term_cells, read_symbol, read_all, starts_fit, clause_rows, rows_short, read_clause, open_deck}
 use Rattle.deck.specs.Answers.{found}
 use Rattle.deck.specs.Kinds.{symbols_of}
+use Rattle.deck.proofs.BoolLaws.{found_all}
 use Rattle.deck.proofs.OpenLaws.{passes, fails, symbols_number, starts_number, short_number, clauses_number, open-number}
 use Rattle.deck.proofs.open.Goals as goal
 use Rattle.deck.proofs.open.Goals.{Else-not-fit, Else-not-fit-2, Else-not-fit-3, Else-not-fit-4}
 
 -- What each test came to, in the rules' words.
-symbols-test : (ws words : List ℕ) (r : Bool) → words ≡ symbol_words ws → r ≡ found (read_all read_symbol words) → found (read_all read_symbol (symbol_words ws)) ≡ r
-symbols-test ws words r w e = rw (← w) (sym e)
+symbols-test : (ws words : List ℕ) (r : Bool) → words ≡ symbol_words ws → r ≡ list_all (λ word. found (read_symbol word)) words
+    → found (read_all read_symbol (symbol_words ws)) ≡ r
+symbols-test ws words r w e = rw (← w) (found_all read_symbol words ∙ sym e)
 
 starts_test :
     (ws places cells : List ℕ) (r : Bool) → places ≡ clause_words ws → cells ≡ term_cells ws → r ≡ starts_fit (length cells) places
@@ -51,19 +54,10 @@ after-short c h = h ∙ passes _ 4 _ (short-test _ _ _ _ c.starts-places.ensures
 pub returns-then-not-fit : goal.returns-then-not-fit
 returns-then-not-fit c = sym (open-number _ ∙ fails _ 1 _ (sym c.fit.ensures ∙ c.if-not-fit.true))
 
-pub symbols-words-requires : goal.symbols-words-requires
-symbols-words-requires c = header-passed c
-
 pub returns-then-not-fit-2 : goal.returns-then-not-fit-2
 returns-then-not-fit-2 c =
     let h = after-header (goal.at.returns-then-not-fit-2 c).Else-not-fit in
     sym (h ∙ fails _ 2 _ (symbols-test _ _ _ c.symbols-words.ensures c.fit-2.ensures ∙ c.if-not-fit-2.true))
-
-pub starts-places-requires : goal.starts-places-requires
-starts-places-requires c = header-passed (goal.at.starts-places-requires c).Else-not-fit
-
-pub cells-cells-requires : goal.cells-cells-requires
-cells-cells-requires c = header-passed (goal.at.cells-cells-requires c).Else-not-fit
 
 pub returns-then-not-fit-3 : goal.returns-then-not-fit-3
 returns-then-not-fit-3 c =
@@ -71,17 +65,11 @@ returns-then-not-fit-3 c =
     let h = after-symbols a.Else-not-fit-2 (after-header a.Else-not-fit) in
     sym (h ∙ fails _ 3 _ (starts_test _ _ _ _ c.starts-places.ensures c.cells-cells.ensures c.fit-3.ensures ∙ c.if-not-fit-3.true))
 
-pub fit-requires-4 : goal.fit-requires-4
-fit-requires-4 c = sym c.fit-3.ensures ∙ c.if-not-fit-3.false
-
 pub returns-then-not-fit-4 : goal.returns-then-not-fit-4
 returns-then-not-fit-4 c =
     let a = goal.at.returns-then-not-fit-4 c in
     let h = after-starts a.Else-not-fit-3 (after-symbols a.Else-not-fit-2 (after-header a.Else-not-fit)) in
     sym (h ∙ fails _ 4 _ (short-test _ _ _ _ c.starts-places.ensures c.cells-cells.ensures c.fit-4.ensures ∙ c.if-not-fit-4.true))
-
-pub fit-requires-5 : goal.fit-requires-5
-fit-requires-5 c = sym c.fit-3.ensures ∙ c.if-not-fit-3.false
 
 pub returns-then-not-fit-5 : goal.returns-then-not-fit-5
 returns-then-not-fit-5 c =

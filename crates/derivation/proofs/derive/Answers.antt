@@ -1,65 +1,52 @@
 -- `derive` meets its contract: the goals that the clauses give are turned over where they all have room; else the goal is written back.
 -- Assumes nothing.
-use Prim.Native.Nat.{ℕ, ◌-◌}
-use mathlib.Core.Path.{◌≡◌, sym, subst}
-use mathlib.Core.List.{List}
-use native.Mathlib.Omega.{arith}
+use Rattle.std.proofs.Common.{ℕ, ◌≡◌, ◌+◌, ◌-◌, ◌≤◌, Option, Some, None, List, length, take, sym, subst, arith}
 use lib.Seq.{length-take-le}
 use Rattle.rules.specs.Terms.{Terms}
 use Rattle.rules.specs.Syntax.{Literal, Deck, Goal, top_goal}
 use Rattle.rules.specs.Decks.{symbol_words}
-use Rattle.rules.specs.Resolution.{positive, resolvents, selected_cost}
-use Rattle.derivation.specs.Derives.{sum_of, Deriving, Derives, Writes}
+use Rattle.rules.specs.Resolution.{resolvents}
+use Rattle.derivation.specs.Derives.{sum_of, Deriving, WritesTo, Writes}
 use Rattle.derivation.specs.declared.Derived.{Derived}
-use Rattle.derivation.specs.declared.Derived.TheVariants.{Words, Oversized, NoRoom, Unpaid}
-use Rattle.derivation.specs.declared.Children.{Children}
-use Rattle.derivation.proofs.DerivingLaws.{numbers, tries, derives-oversized, derives-no-room, derives-unpaid, derives-words}
+use Rattle.resolvents.specs.Selecting.{GoalCells}
+use Rattle.derivation.proofs.ChildrenLaws.{kept-inside}
+use Rattle.derivation.proofs.DerivingLaws.{turned, numbers, tries, derives-oversized, derives-no-room, derives-unpaid, derives-words}
 use Rattle.derivation.proofs.derive.Goals as goal
 use Rattle.derivation.proofs.derive.Goals.{After-put_children}
 
 -- The number of variables is that of the goal.
 fresh : (k : goal.After-put_children) (d : Deck) (g : Goal) (gs : List Goal) (before : List Literal) (p : ℕ) (ts : Terms) (after : List Literal)
     → let a = k.args in
-    Deriving a.deck.now a.store.now a.cells.now a.base a.held a.call.len a.call.answers a.call.s a.call.e d g gs before p ts after
+    Deriving a.clauses.now.deck.now a.store.now a.work.now.cells.now a.held a.call.len a.call.answers a.call.s a.call.e d g gs before p ts after
     → k.variables-n.result ≡ top_goal g
-fresh k d g gs before p ts after x = k.variables-n.ensures (symbol_words k.args.deck.now) k.args.call.answers d.symbols g x.calls.goal
+fresh k d g gs before p ts after x =
+    k.variables-n.ensures (symbol_words k.args.clauses.now.deck.now) k.args.call.answers d.symbols g
+    (subst (λ w. GoalCells (symbol_words k.args.clauses.now.deck.now) w k.args.call.answers d.symbols g) (sym k.goal.ensures) x.calls.goal)
 
 -- What the loop's call leaves.
-writes : (k : goal.After-put_children) (r : Children) → k.put_children.result ≡ r
+writes : (k : goal.After-put_children) (r : Option Derived) → k.put_children.result ≡ r
     → (d : Deck) (g : Goal) (gs : List Goal) (before : List Literal) (p : ℕ) (ts : Terms) (after : List Literal)
     → let a = k.args in
-    Deriving a.deck.now a.store.now a.cells.now a.base a.held a.call.len a.call.answers a.call.s a.call.e d g gs before p ts after
-    → Writes a.store.now a.base (resolvents d.clauses g before p ts after) (sum_of d g p ts) (a.left - 1) k.put_children.new.store r
+    Deriving a.clauses.now.deck.now a.store.now a.work.now.cells.now a.held a.call.len a.call.answers a.call.s a.call.e d g gs before p ts after
+    → Writes a.store.now (a.held - 2 - a.call.len) (resolvents d.clauses g before p ts after) (sum_of d g p ts) (a.left - 1) k.put_children.new.store r
 writes k r e d g gs before p ts after x =
     let a = k.args in
-    subst (Writes a.store.now a.base (resolvents d.clauses g before p ts after) (sum_of d g p ts) (a.left - 1) k.put_children.new.store) e
+    subst (Writes a.store.now (a.held - 2 - a.call.len) (resolvents d.clauses g before p ts after) (sum_of d g p ts) (a.left - 1) k.put_children.new.store) e
     (k.put_children.ensures.writes d g before p ts after (tries x k.variables-n.result (fresh k d g gs before p ts after x)))
 
--- What the step leaves, by the words of the store.
-derives-by : (k : goal.After-put_children) (store' store'' : List ℕ) → store' ≡ store''
-    → (d : Deck) (g : Goal) (gs : List Goal) (before : List Literal) (p : ℕ) (ts : Terms) (after : List Literal) (r : Derived)
-    → let a = k.args in
-    let ds = resolvents d.clauses g before p ts after in
-    let cost = selected_cost d.clauses g (positive before p ts after) in
-    Derives d.symbols a.store.now a.held gs ds cost a.left store'' r → Derives d.symbols a.store.now a.held gs ds cost a.left store' r
-derives-by k store' store'' e d g gs before p ts after r w =
-    let a = k.args in
-    subst (λ l. Derives d.symbols a.store.now a.held gs (resolvents d.clauses g before p ts after) (selected_cost d.clauses g (positive before p ts after)) a.left l r) (sym e) w
+pub overflow_sub-base : goal.overflow_sub-base
+overflow_sub-base c = omega (arith, (numbers c.requires.some_deriving.is).low)
 
-pub slice_bounds-variables-end : goal.slice_bounds-variables-end
-slice_bounds-variables-end c = c.requires.some_deriving.is.calls.inside
-
-pub slice_bounds-variables-end-2 : goal.slice_bounds-variables-end-2
-slice_bounds-variables-end-2 c =
-    sym (length-take-le c.args.call.len c.args.cells.now c.requires.some_deriving.is.calls.inside)
-
-pub overflow_sub-left : goal.overflow_sub-left
-overflow_sub-left c = omega (arith, c.requires.in_bounds.2)
+pub overflow_sub-base-2 : goal.overflow_sub-base-2
+overflow_sub-base-2 c = omega (arith, (numbers c.requires.some_deriving.is).low)
 
 pub put_children-requires : goal.put_children-requires
 put_children-requires c =
     let t = c.requires.some_deriving in
-    let fresh : c.variables-n.result ≡ top_goal t.first = c.variables-n.ensures (symbol_words c.args.deck.now) c.args.call.answers t.deck.symbols t.first t.is.calls.goal in
+    let ws = c.args.clauses.now.deck.now in
+    let fresh : c.variables-n.result ≡ top_goal t.first =
+    c.variables-n.ensures (symbol_words ws) c.args.call.answers t.deck.symbols t.first
+    (subst (λ w. GoalCells (symbol_words ws) w c.args.call.answers t.deck.symbols t.first) (sym c.goal.ensures) t.is.calls.goal) in
     record {
       some_tries = record {
         deck = t.deck;
@@ -70,72 +57,85 @@ put_children-requires c =
         after = t.after;
         is = tries t.is c.variables-n.result fresh;
       };
-      rows = c.requires.rows;
-      in_bounds = (c.requires.in_bounds.0, omega (arith, (numbers t.is).low, (numbers t.is).inside), c.requires.in_bounds.1);
+      base = omega (arith, (numbers t.is).low, (numbers t.is).inside);
     }
 
+-- The derived goals end behind their place.
+reaches : (k : goal.After-put_children) (r : Derived) (end : ℕ) → k.put_children.result ≡ Some r → r.held ≡ Some end
+    → (d : Deck) (g : Goal) (gs : List Goal) (before : List Literal) (p : ℕ) (ts : Terms) (after : List Literal)
+    → let a = k.args in
+    Deriving a.clauses.now.deck.now a.store.now a.work.now.cells.now a.held a.call.len a.call.answers a.call.s a.call.e d g gs before p ts after
+    → a.held - 2 - a.call.len ≤ end
+reaches k r end e q d g gs before p ts after x =
+    let a = k.args in
+    let w = writes k (Some r) e d g gs before p ts after x in
+    let v = subst (WritesTo a.store.now (a.held - 2 - a.call.len) (resolvents d.clauses g before p ts after) k.put_children.new.store) q w.0 in
+    omega (arith, v.1)
+
+-- The goal is written back from cells that it has room for.
+back-fits : (k : goal.After-put_children)
+    → let a = k.args in
+    let cells = take a.call.len k.put_children.new.work.cells.now in
+    (length cells + 2 ≤ a.held) × (a.held ≤ length k.put_children.new.store) × (length cells ≤ 1022) × (a.call.answers ≤ 1024)
+back-fits k =
+    let n = numbers k.requires.some_deriving.is in
+    let m = length-take-le k.args.call.len k.put_children.new.work.cells.now (kept-inside k.put_children.new.work.cells.now k.args.work.now.cells.now k.args.call.len k.put_children.ensures.cells_unchanged n.room) in
+    (omega (arith, m, n.low), omega (arith, n.inside, k.put_children.auto.store), omega (arith, m, n.short), n.few)
+
 pub restore-requires : goal.restore-requires
-restore-requires c =
-    let n = numbers c.requires.some_deriving.is in
-    (n.low, omega (arith, n.inside, c.put_children.auto.store), n.short, n.few, omega (arith, n.room, c.put_children.auto.cells))
+restore-requires c = rw c.goal-in_default.ensures (back-fits (goal.at.restore-requires c).After-put_children)
+
+pub restore-requires-in_default-held : goal.restore-requires-in_default-held
+restore-requires-in_default-held c = rw c.goal-in_default-held.ensures (back-fits (goal.at.restore-requires-in_default-held c).After-put_children)
 
 pub restore-requires-then-store-end : goal.restore-requires-then-store-end
-restore-requires-then-store-end c =
-    let n = numbers c.requires.some_deriving.is in
-    (n.low, omega (arith, n.inside, c.put_children.auto.store), n.short, n.few, omega (arith, n.room, c.put_children.auto.cells))
+restore-requires-then-store-end c = rw c.goal-then-store-end.ensures (back-fits (goal.at.restore-requires-then-store-end c).After-put_children)
 
-pub restore-requires-in-Unpaid : goal.restore-requires-in-Unpaid
-restore-requires-in-Unpaid c =
-    let n = numbers c.requires.some_deriving.is in
-    (n.low, omega (arith, n.inside, c.put_children.auto.store), n.short, n.few, omega (arith, n.room, c.put_children.auto.cells))
-
-pub reverse_range-requires : goal.reverse_range-requires
-reverse_range-requires c =
-    let t = c.requires.some_deriving in
-    let w = writes (goal.at.reverse_range-requires c).After-put_children _ c.in-To.is t.deck t.first t.goals t.before t.predicate t.terms t.after t.is in
-    (omega (arith, w.2), c.if-store-end.false)
-
-pub returns-in-Oversized : goal.returns-in-Oversized
-returns-in-Oversized c =
-    let rest = c.in-Oversized.rest in
+pub returns-in_default : goal.returns-in_default
+returns-in_default c =
+    let k = (goal.at.returns-in_default c).After-put_children in
+    let x₁ = c.put_children in
     record {
       derives = λ d g gs before p ts after x.
-          let w = writes (goal.at.returns-in-Oversized c).After-put_children _ c.in-Oversized.is d g gs before p ts after x in
-          derives-by (goal.at.returns-in-Oversized c).After-put_children _ _ c.restore.ensures d g gs before p ts after (Oversized rest)
-          (derives-oversized x c.put_children.new.store c.put_children.new.cells w.1 c.put_children.ensures.cells_unchanged c.put_children.auto.store c.args.left rest c.requires.in_bounds.2 w);
-      rows_2 = c.put_children.ensures.rows_2;
+          let w = writes k None c.in_default.is d g gs before p ts after x in
+          rw (c.restore.ensures, c.goal-in_default.ensures) (derives-unpaid x x₁.new.store x₁.new.work.cells.now w.1 x₁.ensures.cells_unchanged x₁.auto.store c.args.left c.requires.left w);
+    }
+
+pub returns-in_default-held : goal.returns-in_default-held
+returns-in_default-held c =
+    let k = (goal.at.returns-in_default-held c).After-put_children in
+    let x₁ = c.put_children in
+    let r = c.in-Some.derived in
+    record {
+      derives = λ d g gs before p ts after x.
+          let w = writes k (Some r) c.in-Some.is d g gs before p ts after x in
+          rw (c.restore-in_default-held.ensures, c.goal-in_default-held.ensures)
+          (derives-oversized x x₁.new.store x₁.new.work.cells.now w.1 x₁.ensures.cells_unchanged x₁.auto.store c.args.left r c.in_default-held.is c.requires.left w);
     }
 
 pub returns-then-store-end : goal.returns-then-store-end
 returns-then-store-end c =
-    let end = c.in-To.end in
-    let rest = c.in-To.rest in
+    let k = (goal.at.returns-then-store-end c).After-put_children in
+    let x₁ = c.put_children in
+    let r = c.in-Some.derived in
     record {
       derives = λ d g gs before p ts after x.
-          let w = writes (goal.at.returns-then-store-end c).After-put_children _ c.in-To.is d g gs before p ts after x in
-          derives-by (goal.at.returns-then-store-end c).After-put_children _ _ c.restore-then-store-end.ensures d g gs before p ts after NoRoom
-          (derives-no-room x c.put_children.new.store c.put_children.new.cells w.1 c.put_children.ensures.cells_unchanged c.put_children.auto.store c.args.left end rest c.requires.in_bounds.2 w c.if-store-end.true);
-      rows_2 = c.put_children.ensures.rows_2;
+          let w = writes k (Some r) c.in-Some.is d g gs before p ts after x in
+          rw (c.restore-then-store-end.ensures, c.goal-then-store-end.ensures)
+          (derives-no-room x x₁.new.store x₁.new.work.cells.now w.1 x₁.ensures.cells_unchanged x₁.auto.store c.args.left c.in-Some-held.end r c.in-Some-held.is c.requires.left w c.if-store-end.true);
     }
 
-pub returns-else-store-end : goal.returns-else-store-end
-returns-else-store-end c =
-    let end = c.in-To.end in
-    let rest = c.in-To.rest in
+pub returns : goal.returns
+returns c =
+    let k = (goal.at.returns c).After-put_children in
+    let x₁ = c.put_children in
+    let r = c.in-Some.derived in
     record {
       derives = λ d g gs before p ts after x.
-          let w = writes (goal.at.returns-else-store-end c).After-put_children _ c.in-To.is d g gs before p ts after x in
-          derives-by (goal.at.returns-else-store-end c).After-put_children _ _ c.reverse_range.ensures d g gs before p ts after (Words end rest)
-          (derives-words x c.put_children.new.store c.args.left end rest c.put_children.auto.store c.requires.in_bounds.2 w c.if-store-end.false);
-      rows_2 = c.put_children.ensures.rows_2;
-    }
-
-pub returns-in-Unpaid : goal.returns-in-Unpaid
-returns-in-Unpaid c =
-    record {
-      derives = λ d g gs before p ts after x.
-          let w = writes (goal.at.returns-in-Unpaid c).After-put_children _ c.in-Unpaid.is d g gs before p ts after x in
-          derives-by (goal.at.returns-in-Unpaid c).After-put_children _ _ c.restore-in-Unpaid.ensures d g gs before p ts after Unpaid
-          (derives-unpaid x c.put_children.new.store c.put_children.new.cells w.1 c.put_children.ensures.cells_unchanged c.put_children.auto.store c.args.left c.requires.in_bounds.2 w);
-      rows_2 = c.put_children.ensures.rows_2;
+          let w = writes k (Some r) c.in-Some.is d g gs before p ts after x in
+          let b = c.args.held - 2 - c.args.call.len in
+          let end = c.in-Some-held.end in
+          let least = reaches k r end c.in-Some.is c.in-Some-held.is d g gs before p ts after x in
+          rw (c.reverse.ensures.after, turned b end x₁.new.store least)
+          (derives-words x x₁.new.store c.args.left end r x₁.auto.store c.in-Some-held.is c.requires.left w c.if-store-end.false);
     }

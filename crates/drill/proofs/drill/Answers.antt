@@ -2,6 +2,7 @@
 use mathlib.Core.Path.{◌≡◌, ap, sym, ◌∙◌, subst}
 use mathlib.Core.Bool.{Bool, true, false}
 use borrow.Author.Tests.{not-true, not-false}
+use Rattle.std.proofs.lemmas.Result.{err_from_is_err_and}
 use Rattle.rules.specs.Refusals.{checked_number}
 use Rattle.rules.specs.Decks.{symbol_words, open_deck}
 use Rattle.deck.specs.Answers.{number_of}
@@ -10,11 +11,11 @@ use Rattle.deck.proofs.OpenLaws.{accepted-header}
 use Rattle.drill.specs.Successors.{Accepts}
 use Rattle.drill.proofs.AnswerLaws.{symbols-few, refused-call, refused-drill, written-call}
 use Rattle.drill.proofs.drill.Goals as goal
-use Rattle.drill.proofs.drill.Goals.{After-accepts, In-Accepted}
+use Rattle.drill.proofs.drill.Goals.{After-accepts, In_ok-open}
 
 -- The deck was accepted, and what the test of the given cells says.
-opens : (c : goal.In-Accepted) → checked_number (open_deck c.args.deck.now) ≡ 0
-opens c = sym c.«open».ensures ∙ ap number_of c.in-Accepted.is
+opens : (c : goal.In_ok-open) → checked_number (open_deck c.args.deck.now) ≡ 0
+opens c = sym c.«open».ensures ∙ ap number_of c.in_ok-open.was
 
 tested : (c : goal.After-accepts) (b : Bool) → c.accepts.result ≡ b → Accepts (symbols_of (symbol_words c.args.deck.now)) c.args.n c.args.given.now b
 tested c b e = subst (λ r. Accepts (symbols_of (symbol_words c.args.deck.now)) c.args.n c.args.given.now r) e (rw c.symbols-symbols.ensures at c.accepts.ensures)
@@ -24,7 +25,7 @@ symbols-symbols-requires c = accepted-header _ (opens c)
 
 pub returns-then-not-accepts : goal.returns-then-not-accepts
 returns-then-not-accepts c =
-    let w = refused-drill c.args.deck.now c.args.n c.args.given.now c.args.out.now (opens (goal.at.returns-then-not-accepts c).In-Accepted) (tested (goal.at.returns-then-not-accepts c).After-accepts false (not-true c.accepts.result c.if-not-accepts.true-raw)) in
+    let w = refused-drill c.args.deck.now c.args.n c.args.given.now c.args.out.now (opens (goal.at.returns-then-not-accepts c).In_ok-open) (tested (goal.at.returns-then-not-accepts c).After-accepts false (not-true c.accepts.result c.if-not-accepts.true-raw)) in
     record {
       answers = w.answer;
       out_after = w.list;
@@ -33,23 +34,23 @@ returns-then-not-accepts c =
 pub list-requires : goal.list-requires
 list-requires c =
     let ws = c.args.deck.now in
-    rw c.symbols-symbols.ensures (symbols-few ws (accepted-header ws (opens (goal.at.list-requires c).In-Accepted)), tested (goal.at.list-requires c).After-accepts true (not-false c.accepts.result c.if-not-accepts.false-raw))
+    rw c.symbols-symbols.ensures (symbols-few ws (accepted-header ws (opens (goal.at.list-requires c).In_ok-open)), tested (goal.at.list-requires c).After-accepts true (not-false c.accepts.result c.if-not-accepts.false-raw))
 
-pub returns-in-Refused : goal.returns-in-Refused
-returns-in-Refused c =
-    let why = c.in-Refused.why in
-    let w = refused-call c.args.deck.now c.args.n c.args.given.now c.args.out.now why (sym (ap number_of c.in-Refused.is) ∙ c.«open».ensures) in
+pub returns-in_err-open : goal.returns-in_err-open
+returns-in_err-open c =
+    let p = err_from_is_err_and c.from_residual.result c.from_residual.ensures.1 in
+    let w = refused-call c.args.deck.now c.args.n c.args.given.now c.args.out.now c.in_err-open.field-0.0 c.in_err-open.ensures in
     record {
-      answers = w.answer;
+      answers = rw (p.1, p.2) w.answer;
       out_after = w.list;
     }
 
-pub returns-else-not-accepts : goal.returns-else-not-accepts
-returns-else-not-accepts c =
+pub returns : goal.returns
+returns c =
     let ws = c.args.deck.now in
     let w =
-    written-call ws c.args.n c.args.given.now c.args.out.now (opens (goal.at.returns-else-not-accepts c).In-Accepted) c.list.result c.list.new.out
-    (tested (goal.at.returns-else-not-accepts c).After-accepts true (not-false c.accepts.result c.if-not-accepts.false-raw)) (rw c.symbols-symbols.ensures at c.list.ensures.value) (rw c.symbols-symbols.ensures at c.list.ensures.out_after) in
+    written-call ws c.args.n c.args.given.now c.args.out.now (opens (goal.at.returns c).In_ok-open) c.list.result c.list.new.out
+    (tested (goal.at.returns c).After-accepts true (not-false c.accepts.result c.if-not-accepts.false-raw)) (rw c.symbols-symbols.ensures at c.list.ensures.number) (rw c.symbols-symbols.ensures at c.list.ensures.list) in
     record {
       answers = w.answer;
       out_after = w.list;

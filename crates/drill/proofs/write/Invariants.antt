@@ -7,7 +7,9 @@ use Rattle.drill.proofs.WriteLaws.{Writing}
 use Rattle.drill.proofs.write.Given as goal
 
 abbrev pub invariant-loop-size : goal.invariant-loop-size
-invariant-loop-size l = Writing (symbols_of l.symbols) l.n (rest_after (symbols_of l.symbols) l.n (take l.held l.initial.cells)) l.initial.out l.cells l.size l.out l.at l.count
+invariant-loop-size l =
+    let S = symbols_of l.functors.symbols.now in
+    Writing S l.n (rest_after S l.n (take l.fn.held l.initial.cells)) l.initial.out l.cells l.held l.out l.at l.count
 
 abbrev pub decreases-loop-size : goal.decreases-loop-size
 decreases-loop-size l = length l.initial.out - l.at

@@ -27,8 +27,8 @@ first-held-requires c =
     let a = c.args in
     let g = run-accepts a.deck.now a.query.now a.budget (length a.answers.now) (length a.store.now) (length a.scratch.now) (sym c.requires) in
     record {
-      some_query = record { symbol_words = symbol_words c.args.deck.now; symbols = g.is.deck.symbols; query = g.is.query; queries = accepted-query g.is };
-      in_bounds = g.least;
+      query = record { symbol_words = symbol_words c.args.deck.now; symbols = g.is.deck.symbols; query = g.is.query; queries = accepted-query g.is };
+      room = g.least;
     }
 
 pub from_goals-requires : goal.from_goals-requires
@@ -36,8 +36,9 @@ from_goals-requires c =
     let a = c.args in
     let g = run-accepts a.deck.now a.query.now a.budget (length a.answers.now) (length a.store.now) (length a.scratch.now) (sym c.requires) in
     record {
-      some_opening = record { deck = g.is.deck; goals = first_goal g.is.query ∷ []; parked_goals = []; opens = g.is.opens; stored = held (goal.at.from_goals-requires c).After-first-held };
-      in_bounds = (g.scratch, omega (arith, g.most, c.first-held.auto.store));
+      opening = record { deck = g.is.deck; goals = first_goal g.is.query ∷ []; parked_goals = []; opens = g.is.opens; stored = held (goal.at.from_goals-requires c).After-first-held };
+      short_store = omega (arith, g.most, c.first-held.auto.store);
+      room = g.scratch;
     }
 
 pub returns : goal.returns

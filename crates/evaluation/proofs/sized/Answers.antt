@@ -7,5 +7,5 @@ use Rattle.evaluation.proofs.sized.Goals as goal
 pub returns : goal.returns
 returns c =
     let a = c.args in
-    ap number_of c.first_refusal.ensures
-    ∙ sized-number a.deck.now a.query.now 0 0 a.store a.scratch c.check-words.result c.sizes-buffers.result c.check-words.ensures c.sizes-buffers.ensures
+    ap number_of c.and.ensures
+    ∙ sized-number a.deck.now a.query.now 0 0 a.store a.scratch c.check.result c.sizes.result c.check.ensures c.sizes.ensures

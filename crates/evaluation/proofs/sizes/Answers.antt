@@ -1,15 +1,30 @@
 -- `sizes`: the store's two limits, then the scratch's.
-use Rattle.evaluation.proofs.RunLaws.{store-small, store-large, scratch-small, sizes-fit}
+use Prim.Native.Nat.{ℕ}
+use mathlib.Core.Path.{◌≡◌, sym, ◌∙◌}
+use mathlib.Core.Bool.{◌&&◌}
+use lib.Dec.{leb}
+use Rattle.std.specs.Range.{range_inclusive_start, range_inclusive_end}
+use Rattle.evaluation.proofs.RunLaws.{is_le-leb, store-refused, scratch-small, sizes-fit}
 use Rattle.evaluation.proofs.sizes.Goals as goal
+use Rattle.evaluation.proofs.sizes.Goals.{After-contains}
 
-pub returns-then-store-lt1024 : goal.returns-then-store-lt1024
-returns-then-store-lt1024 c = let a = c.args in store-small a.store a.scratch c.if-store-lt1024.true
+-- What the range's test says, of its ends.
+tested : (c : goal.After-contains) (a b : ℕ) → range_inclusive_start c.new.result ≡ a → range_inclusive_end c.new.result ≡ b
+    → c.contains.result ≡ (leb a c.args.store && leb c.args.store b)
+tested c a b s e = rw (s, e, c.new.ensures.exhausted, is_le-leb a c.args.store, is_le-leb c.args.store b) at c.contains.ensures.value
 
-pub returns-then-store-gt65535 : goal.returns-then-store-gt65535
-returns-then-store-gt65535 c = let a = c.args in store-large a.store a.scratch c.if-store-gt65535.true
+pub returns-then-not-contains : goal.returns-then-not-contains
+returns-then-not-contains c =
+    let r = c.new.ensures in
+    store-refused c.args.store c.args.scratch (sym (tested (goal.at.returns-then-not-contains c).After-contains _ _ r.start r.end) ∙ c.if-not-contains.true)
 
 pub returns-then-scratch-lt8192 : goal.returns-then-scratch-lt8192
-returns-then-scratch-lt8192 c = let a = c.args in scratch-small a.store a.scratch c.if-store-lt1024.false c.if-store-gt65535.false c.if-scratch-lt8192.true
+returns-then-scratch-lt8192 c =
+    let r = c.new.ensures in
+    scratch-small c.args.store c.args.scratch
+    (sym (tested (goal.at.returns-then-scratch-lt8192 c).After-contains _ _ r.start r.end) ∙ c.if-not-contains.false) c.if-scratch-lt8192.true
 
 pub returns : goal.returns
-returns c = let a = c.args in sizes-fit a.store a.scratch c.if-store-lt1024.false c.if-store-gt65535.false c.if-scratch-lt8192.false
+returns c =
+    let r = c.new.ensures in
+    sizes-fit c.args.store c.args.scratch (sym (tested (goal.at.returns c).After-contains _ _ r.start r.end) ∙ c.if-not-contains.false) c.if-scratch-lt8192.false

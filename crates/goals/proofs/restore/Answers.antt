@@ -1,7 +1,10 @@
-use Prim.Native.Nat.{◌-◌}
+use Prim.Native.Nat.{◌+◌, ◌-◌}
+use mathlib.Core.Path.{◌≡◌, refl}
 use native.Mathlib.Omega.{arith}
-use lib.ListN.{take, length-set}
-use lib.Seq.{length-take-le}
+use lib.ListN.{length, length-set}
+use Rattle.words.proofs.Sets.{put_sets}
+use lib.ListN.{length-reverse}
+use mathlib.Core.List.{reverse}
 use Rattle.goals.proofs.MirrorLaws.{two-more}
 use Rattle.goals.proofs.restore.Goals as goal
 
@@ -11,7 +14,7 @@ bounds-store-held-2 c = simp length-set (omega arith)
 pub returns : goal.returns
 returns c =
     let a = c.args in
-    let n = a.held - a.base - 2 in
-    rw c.put_mirrored.ensures
-    (two-more a.store.now (take n a.cells.now) a.base a.held n a.answers (a.held - a.base) (omega arith)
-    (length-take-le n a.cells.now (omega arith)))
+    let n = length a.cells.now in
+    let fits : n ≡ a.held - 2 - (a.held - 2 - n) = omega arith in
+    rw (c.mirror.ensures, ← fits, put_sets a.store.now (reverse a.cells.now) (a.held - 2 - n) n (omega arith) (length-reverse a.cells.now))
+    (two-more a.store.now a.cells.now (a.held - 2 - n) a.held n a.answers (n + 2) (omega arith) refl)

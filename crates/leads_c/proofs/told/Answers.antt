@@ -1,9 +1,9 @@
--- `told`: the refusal's number, or the report's numbers.
+-- The refusal's number, or the report's numbers.
 use Rattle.leads_c.proofs.CallLaws.{tells-refused, tells-done}
 use Rattle.leads_c.proofs.told.Goals as goal
 
-pub returns-in-Refused : goal.returns-in-Refused
-returns-in-Refused c = tells-refused _ c.in-Refused.why _ _ c.in-Refused.is c.number.ensures
+pub returns-in-Err : goal.returns-in-Err
+returns-in-Err c = tells-refused _ c.in-Err.why _ _ c.in-Err.is c.from-in-Err.ensures
 
-pub returns-in-Done : goal.returns-in-Done
-returns-in-Done c = tells-done _ c.in-Done.report _ _ c.in-Done.is c.stop_number.ensures
+pub returns-in-Ok : goal.returns-in-Ok
+returns-in-Ok c = tells-done _ c.in-Ok.report _ _ c.in-Ok.is c.from.ensures

@@ -8,7 +8,6 @@ use lib.ListN.{length}
 use Rattle.rules.specs.Syntax.{Deck, Goal}
 use Rattle.rules.specs.Refusals.{accepted}
 use Rattle.rules.specs.Decks.{open_deck}
-use Rattle.resolvents.specs.Deriving.{Rows}
 use Rattle.goals.specs.Store.{Holding}
 use Rattle.levels.specs.Levels.{Later}
 use Rattle.levels.proofs.GoingLaws.{Goes}
@@ -28,10 +27,9 @@ decreases-take_step l = 4 * l.below + 2
 
 abbrev pub invariant-level-loop-held : goal.invariant-level-loop-held
 invariant-level-loop-held l =
-    ((length l.store ≡ length l.initial.store) × (length l.cells ≡ length l.initial.cells) × (length l.table ≡ length l.initial.table) × (length l.draft ≡ length l.initial.draft))
-    × Rows l.table l.draft × Later l.initial.current l.current
-    × ((d : Deck) (gs : List Goal) → open_deck l.deck ≡ accepted d → Holding d.symbols l.initial.store l.start gs
-    → Goes d l.below (length l.initial.store) gs l.initial.current l.store l.held l.current l.parked)
+    (length l.store ≡ length l.initial.store) × Later l.initial.account l.account
+    × ((d : Deck) (gs : List Goal) → open_deck l.clauses.deck.now ≡ accepted d → Holding d.symbols l.initial.store l.start gs
+    → Goes d l.below (length l.initial.store) gs l.initial.account l.store l.held l.account l.parked)
 
 abbrev pub decreases-level-loop-held : goal.decreases-level-loop-held
-decreases-level-loop-held l = l.current.left
+decreases-level-loop-held l = l.account.left

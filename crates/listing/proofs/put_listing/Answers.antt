@@ -1,11 +1,13 @@
 -- The first two lines, and then the answers: at most 69 bytes, and 8 for each word of the answer list.
 use Prim.Native.Nat.{◌*◌, ◌≤◌}
+use mathlib.Core.Path.{ap}
 use native.Mathlib.Omega.{arith}
 use lib.ListN.{length}
+use Rattle.std.proofs.Common.{rules}
 use Rattle.rules.specs.Evaluation.{Outcome}
 use Rattle.rules.specs.Listing.{print_answers}
 use Rattle.listing.specs.Shown.{Shown}
-use Rattle.listing.proofs.PutLaws.{put_then, put-length}
+use Rattle.listing.proofs.PutLaws.{put_at_start, adds_then, adds-length}
 use Rattle.listing.proofs.PrintLaws.{answers-short}
 use Rattle.listing.proofs.AnswerLaws.{answers-inside}
 use Rattle.listing.proofs.LineLaws.{same-answers, listing-parts}
@@ -20,28 +22,31 @@ bounds c o s =
     let i = answers-inside c.args.symbols.now c.args.answers.now o.answers s.answers in
     (omega (arith, w.0, i), omega (arith, w.1, i))
 
-pub put_head-at-requires : goal.put_head-at-requires
-put_head-at-requires c =
-    let b = bounds (goal.at.put_head-at-requires c).Start c.requires.shown.0 c.requires.shown.1 in
-    record {
-      in_bounds = (omega (arith, c.requires.answers_len_bound.1), omega (arith, c.requires.answers_len_bound.0, b.1, same-answers c.args.report c.requires.shown.0 c.requires.shown.1.reported));
-      report_value = (c.requires.shown.0, c.requires.shown.1.reported);
-    }
+pub put_head-requires-clause-some_outcome : goal.put_head-requires-clause-some_outcome
+put_head-requires-clause-some_outcome c =
+    let s = c.requires.shown in
+    let b = bounds (goal.at.put_head-requires-clause-some_outcome c).Start s.0 s.1 in
+    (s.0, s.1.reported, omega (arith, c.requires.room.0, b.1, same-answers c.args.report s.0 s.1.reported))
 
 pub put_answers-requires : goal.put_answers-requires
 put_answers-requires c =
-    let o = c.requires.shown.0 in
-    let s = c.requires.shown.1 in
-    let b = bounds (goal.at.put_answers-requires c).Start o s in
-    (c.requires.shown.0.answers, c.requires.shown.1.answers, same-answers c.args.report o c.requires.shown.1.reported, omega (arith, c.put_head-at.ensures.upper_bound, b.0, c.requires.answers_len_bound.1, put-length (c.put_head-at.ensures.put o c.requires.shown.1.reported)))
+    let s = c.requires.shown in
+    let b = bounds (goal.at.put_answers-requires c).Start s.0 s.1 in
+    let o = c.new-out.ensures in (
+      s.0.answers,
+      s.1.answers,
+      same-answers c.args.report s.0 s.1.reported,
+      omega (arith, c.put_head.ensures.short, b.0, c.requires.room.1, adds-length (c.put_head.ensures.adds s.0 s.1.reported), o.start, ap length o.bytes),
+    )
 
-pub returns : goal.returns
-returns c =
-    let r = c.args.report in
-    let a = c.put_answers.ensures in
-    let o = c.requires.shown.0 in
-    let s = c.requires.shown.1 in
-    record {
-      put = λ o s. rw (listing-parts o) (put_then (c.put_head-at.ensures.put o s.reported) (a o.answers s.answers (same-answers r o s.reported)));
-      upper_bound = omega (arith, c.put_head-at.ensures.upper_bound, (a c.requires.shown.0.answers c.requires.shown.1.answers (same-answers r o c.requires.shown.1.reported)).place, (bounds (goal.at.returns c).Start o s).0);
-    }
+pub returns-clause-put : goal.returns-clause-put
+returns-clause-put c = λ o s.
+    let n = c.new-out.ensures in
+    let a = adds_then (c.put_head.ensures.adds o s.reported) (c.put_answers.ensures o.answers s.answers (same-answers c.args.report o s.reported)) in
+    rw (listing-parts o) (put_at_start n.bytes n.start a (search (rules, n.same_reference, a.same_reference)))
+
+pub returns-clause-short : goal.returns-clause-short
+returns-clause-short c =
+    let s = c.requires.shown in
+    let b = bounds (goal.at.returns-clause-short c).Start s.0 s.1 in
+    omega (arith, c.put_head.ensures.short, c.new-out.ensures.start, (c.put_answers.ensures s.0.answers s.1.answers (same-answers c.args.report s.0 s.1.reported)).put.place, b.0)

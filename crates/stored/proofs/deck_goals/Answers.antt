@@ -1,6 +1,10 @@
 -- `deck_goals`: an opened deck has the symbols of its symbol words.
-use Rattle.stored.proofs.StoreLaws.{deck-found}
+use mathlib.Core.Path.{subst}
+use Rattle.stored.specs.Passing.{OpenFound}
+use Rattle.stored.proofs.StoreLaws.{deck-symbols}
 use Rattle.stored.proofs.deck_goals.Goals as goal
 
 pub returns : goal.returns
-returns c = λ d e. deck-found c.args.deck.now d e _ c.args.store.now c.args.pending c.args.parked c.args.terms c.open_goals.result c.symbols.ensures c.open_goals.ensures
+returns c d e =
+    let a = c.args in
+    subst (λ S. OpenFound S a.store.now a.pending a.parked a.terms c.open_goals.result) (deck-symbols a.deck.now c.symbols.result.now d e c.symbols.ensures) c.open_goals.ensures

@@ -1,30 +1,25 @@
 -- `goals`: the goals passed so far are read in front of the others.
-use mathlib.Core.Path.{subst}
 use native.Mathlib.Omega.{arith}
 use Rattle.deck.specs.Kinds.{symbols_of}
-use Rattle.stored.specs.Passing.{fits_as, GoalFound}
+use Rattle.stored.specs.Passing.{fits_as}
 use Rattle.stored.proofs.StoreLaws.{pass-start, pass-more, pass-none}
 use Rattle.stored.proofs.goals.Goals as goal
 
-pub loop-left-init : goal.loop-left-init
-loop-left-init c = pass-start (symbols_of c.args.symbols.now) (fits_as c.args.parked c.args.terms) c.args.store.now c.args.at c.args.count c.requires
+pub loop-init : goal.loop-init
+loop-init c = pass-start (symbols_of c.args.symbols.now) (fits_as c.args.parked c.args.terms) c.args.store.now c.args.at c.requires
 
-pub goal-requires : goal.goal-requires
-goal-requires c = omega (arith, c.loop-left.invariant.0.inside)
-
-pub loop-left-preserved : goal.loop-left-preserved
-loop-left-preserved c =
+pub loop-preserved : goal.loop-preserved
+loop-preserved c =
     let a = c.args in
-    let l = c.loop-left in
-    pass-more (symbols_of a.symbols.now) (fits_as a.parked a.terms) a.store.now a.at l.place l.left a.count l.invariant.0 l.invariant.1 c.loop-left-test.true c.in-At.end
-    (subst (GoalFound (symbols_of a.symbols.now) (fits_as a.parked a.terms) a.store.now l.place) c.in-At.is c.goal.ensures)
+    let l = c.loop in
+    pass-more (symbols_of a.symbols.now) (fits_as a.parked a.terms) a.store.now a.at l.place l.counter l.invariant.0 l.invariant.1 c.in_ok-place.place c.in_ok-place.ensures
 
-pub returns-in-Nowhere : goal.returns-in-Nowhere
-returns-in-Nowhere c =
+pub returns-in_err-place : goal.returns-in_err-place
+returns-in_err-place c =
     let a = c.args in
-    let l = c.loop-left in
-    pass-none (symbols_of a.symbols.now) (fits_as a.parked a.terms) a.store.now a.at l.place l.left a.count l.invariant.0 l.invariant.1 c.loop-left-test.true
-    (subst (GoalFound (symbols_of a.symbols.now) (fits_as a.parked a.terms) a.store.now l.place) c.in-Nowhere.is c.goal.ensures)
+    let l = c.loop in
+    rw c.from_residual.ensures
+    (pass-none (symbols_of a.symbols.now) (fits_as a.parked a.terms) a.store.now a.at l.place l.counter l.invariant.0 l.invariant.1 a.count c.loop-test.true c.in_err-place.ensures)
 
 pub returns : goal.returns
-returns c = (c.loop-left.invariant.0, omega (arith, c.loop-left.invariant.1, c.loop-left-test.false))
+returns c = (c.loop.invariant.0, omega (arith, c.loop.invariant.1, c.loop-test.false))

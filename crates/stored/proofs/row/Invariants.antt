@@ -8,6 +8,3 @@ use Rattle.stored.proofs.row.Given as goal
 
 abbrev pub invariant-loop-at : goal.invariant-loop-at
 invariant-loop-at l = (l.at ≤ length l.cells) × (l.todo ≤ length l.cells - l.at) × (l.next ≤ l.at) × (scan (symbols_of l.symbols) l.cells l.terms 0 ≡ scan (symbols_of l.symbols) (drop l.at l.cells) l.todo l.next)
-
-abbrev pub decreases-loop-at : goal.decreases-loop-at
-decreases-loop-at l = length l.cells - l.at

@@ -1,5 +1,6 @@
 -- `step`: one cell of the scan, case by case.
-use Rattle.stored.proofs.CellsLaws.{variable-none, variable-late, variable-new, variable-old, function-none, function-many, function-on, as-positive, as-negative, no_cell}
+use native.Mathlib.Omega.{arith}
+use Rattle.stored.proofs.CellsLaws.{variable-none, variable-late, variable-on, function-none, function-many, function-on, as-negative, no_cell}
 use Rattle.stored.proofs.step.Goals as goal
 
 pub returns-then-todo-eq0 : goal.returns-then-todo-eq0
@@ -8,23 +9,17 @@ returns-then-todo-eq0 c = variable-none c.args.room c.args.todo c.args.next c.ar
 pub returns-then-next-v : goal.returns-then-next-v
 returns-then-next-v c = variable-late c.args.room c.args.todo c.args.next c.args.kind c.in-Variable.v c.in-Variable.is c.if-todo-eq0.false c.if-next-v.true
 
-pub returns-then-v-next : goal.returns-then-v-next
-returns-then-v-next c = variable-new c.args.room c.args.todo c.args.next c.args.kind c.in-Variable.v c.in-Variable.is c.if-todo-eq0.false c.if-v-next.true c.requires.1
-
 pub returns-then-todo-eq0-2 : goal.returns-then-todo-eq0-2
 returns-then-todo-eq0-2 c = function-none c.args.room c.args.todo c.args.next c.args.kind c.in-Function.k c.in-Function.is c.if-todo-eq0-2.true
 
 pub returns-then-room-todo : goal.returns-then-room-todo
 returns-then-room-todo c = function-many c.args.room c.args.todo c.args.next c.args.kind c.in-Function.k c.in-Function.is c.if-todo-eq0-2.false c.requires.1 c.if-room-todo.true
 
-pub returns-else-v-next : goal.returns-else-v-next
-returns-else-v-next c = variable-old c.args.room c.args.todo c.args.next c.args.kind c.in-Variable.v c.in-Variable.is c.if-todo-eq0.false c.if-next-v.false c.if-v-next.false c.requires.1
+pub returns-else-next-v : goal.returns-else-next-v
+returns-else-next-v c = variable-on c.args.room c.args.todo c.args.next c.args.kind c.in-Variable.v c.max.result c.in-Variable.is c.if-todo-eq0.false c.if-next-v.false c.requires.1 (omega arith)
 
 pub returns-else-room-todo : goal.returns-else-room-todo
 returns-else-room-todo c = function-on c.args.room c.args.todo c.args.next c.args.kind c.in-Function.k c.in-Function.is c.if-todo-eq0-2.false c.requires.1 c.if-room-todo.false
-
-pub returns-in-Positive : goal.returns-in-Positive
-returns-in-Positive c = as-positive c.args.room c.args.todo c.args.next c.args.kind c.in-Positive.k c.in-Positive.is c.predicate.result c.predicate.ensures
 
 pub returns-in-Negative : goal.returns-in-Negative
 returns-in-Negative c = as-negative c.args.room c.args.todo c.args.next c.args.kind c.in-Negative.k c.in-Negative.is c.predicate-in-Negative.result c.predicate-in-Negative.ensures

@@ -1,45 +1,43 @@
--- `goals`: from one goal to the next by their lengths.
-use Prim.Native.Nat.{◌%◌}
-use mathlib.Core.Path.{refl}
+-- `count_goals`: from one goal to the next by their lengths.
 use mathlib.Core.List.{List}
 use native.Mathlib.Omega.{arith}
-use lib.ListN.{get_or}
+use lib.ListN.{length-drop}
 use Rattle.rules.specs.Syntax.{Symbol}
 use Rattle.rules.specs.Goals.{Marked}
 use Rattle.top_level.specs.Top.{Written}
+use Rattle.top_level.proofs.StoredLaws.{part-all}
 use Rattle.top_level.proofs.CountLaws.{Further, passed_none, passed-more, passed-all}
 use Rattle.top_level.proofs.count_goals.Goals as goal
-use Rattle.top_level.proofs.count_goals.Goals.{After-shared_slice_known-1}
+use Rattle.top_level.proofs.count_goals.Goals.{After-from}
 
 -- The next goal, of those that the words are, and of those that are known to be there.
-next : (c : goal.After-shared_slice_known-1) → let a = c.args in let l = c.loop-i in
-    (S : List Symbol) (ms : List Marked) → Written S a.words.now ms → Further S a.words.now l.i l.n (get_or a.words.now l.i 0 % 4096) ms
-next c S ms w = passed-more _ (c.loop-i.invariant.2 S ms w) c.loop-i-test.true refl
+next : (c : goal.After-from) → let l = c.loop-rest in (S : List Symbol) (ms : List Marked) → Written S c.args.words.now ms → Further S l.rest.now l.n c.from.result ms
+next c S ms w = passed-more _ (c.loop-rest.invariant.1 S ms w) c.in-len1-up.len_at_least c.from.ensures
 
-known : (c : goal.After-shared_slice_known-1) → let a = c.args in let l = c.loop-i in
-    Further c.requires.some_written.symbols a.words.now l.i l.n (get_or a.words.now l.i 0 % 4096) c.requires.some_written.goals
-known c = next c c.requires.some_written.symbols c.requires.some_written.goals c.requires.some_written.written
+known : (c : goal.After-from) → let l = c.loop-rest in Further c.requires.written.symbols l.rest.now l.n c.from.result c.requires.written.goals
+known c = next c c.requires.written.symbols c.requires.written.goals c.requires.written.written
 
-pub loop-i-init : goal.loop-i-init
-loop-i-init c = (omega arith, omega arith, λ S ms w. passed_none w)
+pub loop-rest-init : goal.loop-rest-init
+loop-rest-init c = (omega arith, λ S ms w. passed_none w)
 
-pub bounds-words-i : goal.bounds-words-i
-bounds-words-i c = omega arith
+pub slice_bounds-rest-count : goal.slice_bounds-rest-count
+slice_bounds-rest-count c = (known (goal.at.slice_bounds-rest-count c).After-from).inside
 
-pub overflow_cast-length : goal.overflow_cast-length
-overflow_cast-length c = omega arith
+pub slice_bounds-rest-start : goal.slice_bounds-rest-start
+slice_bounds-rest-start c = omega (arith, (known (goal.at.slice_bounds-rest-start c).After-from).inside)
 
-pub overflow_add-i : goal.overflow_add-i
-overflow_add-i c = omega (arith, (known c).inside)
+pub loop-rest-smaller : goal.loop-rest-smaller
+loop-rest-smaller c =
+    let k = known (goal.at.loop-rest-smaller c).After-from in
+    let r = c.loop-rest.rest.now in
+    rw (part-all r c.from.result k.inside) (omega (arith, length-drop c.from.result r, k.least, k.inside))
 
-pub overflow_add-n : goal.overflow_add-n
-overflow_add-n c = omega arith
-
-pub loop-i-smaller : goal.loop-i-smaller
-loop-i-smaller c = omega (arith, (known c).least)
-
-pub loop-i-preserved : goal.loop-i-preserved
-loop-i-preserved c = ((known c).inside, omega (arith, (known c).least), λ S ms w. (next c S ms w).passed)
+pub loop-rest-preserved : goal.loop-rest-preserved
+loop-rest-preserved c =
+    let k = known (goal.at.loop-rest-preserved c).After-from in
+    let r = c.loop-rest.rest.now in
+    rw (part-all r c.from.result k.inside)
+    (omega (arith, c.loop-rest.invariant.0, length-drop c.from.result r, k.least, k.inside), λ S ms w. (next (goal.at.loop-rest-preserved c).After-from S ms w).passed)
 
 pub returns : goal.returns
-returns c = λ S ms w. passed-all (c.loop-i.invariant.2 S ms w) c.loop-i-test.false
+returns c = λ S ms w. passed-all (c.loop-rest.invariant.1 S ms w) (omega (arith, c.in_default.len_below))

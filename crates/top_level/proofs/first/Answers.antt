@@ -13,10 +13,10 @@ use Rattle.top_level.proofs.first.Goals.{After-variables-n, At-loop-i}
 -- Of the query that is known to be there.
 short : (c : goal.After-variables-n) → 2 + c.variables-n.result + length c.args.query.now ≤ 1024
 short c =
-    first_short c.requires.some_query.queries c.variables-n.result _ (c.variables-n.ensures c.requires.some_query.symbol_words 0 c.requires.some_query.symbols _ (query-cells c.requires.some_query.queries)) refl
+    first_short c.requires.query.queries c.variables-n.result _ (c.variables-n.ensures c.requires.query.symbol_words 0 c.requires.query.symbols _ (query-cells c.requires.query.queries)) refl
 
 same : (c : goal.At-loop-i) → length c.loop-i.store ≡ length c.args.store.now
-same c = ap length c.loop-i.invariant.1 ∙ simp (length-sets, length-set)
+same c = ap length c.loop-i.invariant ∙ simp (length-sets, length-set)
 
 pub overflow_add-held : goal.overflow_add-held
 overflow_add-held c = omega (arith, short c)
@@ -27,17 +27,11 @@ overflow_add-held-2 c = omega (arith, short c)
 pub overflow_cast-store : goal.overflow_cast-store
 overflow_cast-store c = omega (arith, short c)
 
-pub bounds-store-0 : goal.bounds-store-0
-bounds-store-0 c = omega arith
-
 pub overflow_cast-store-2 : goal.overflow_cast-store-2
 overflow_cast-store-2 c = omega (arith, short c)
 
-pub bounds-store-1 : goal.bounds-store-1
-bounds-store-1 c = simp length-set (omega arith)
-
 pub loop-i-init : goal.loop-i-init
-loop-i-init c = (omega arith, refl)
+loop-i-init c = refl
 
 pub overflow_add-store : goal.overflow_add-store
 overflow_add-store c = omega (arith, short (goal.at.overflow_add-store c).After-variables-n)
@@ -54,15 +48,9 @@ offset_bounds-store-i c = omega (arith, short (goal.at.offset_bounds-store-i c).
 pub bounds-store-i : goal.bounds-store-i
 bounds-store-i c = omega (arith, short (goal.at.bounds-store-i c).After-variables-n, same (goal.at.bounds-store-i c).At-loop-i)
 
-pub overflow_add-i : goal.overflow_add-i
-overflow_add-i c = omega (arith, short (goal.at.overflow_add-i c).After-variables-n)
-
-pub loop-i-smaller : goal.loop-i-smaller
-loop-i-smaller c = omega arith
-
 pub loop-i-preserved : goal.loop-i-preserved
 loop-i-preserved c =
-    (omega arith, ap (λ (s : List ℕ). set s (2 + c.loop-i.i) (32768 + c.loop-i.i)) c.loop-i.invariant.1 ∙ numbers_more _ c.loop-i.i)
+    ap (λ (s : List ℕ). set s (2 + c.loop-i.i) (32768 + c.loop-i.i)) c.loop-i.invariant ∙ numbers_more _ c.loop-i.i
 
 pub overflow_add-n : goal.overflow_add-n
 overflow_add-n c = omega (arith, short (goal.at.overflow_add-n c).After-variables-n)
@@ -86,8 +74,8 @@ returns c =
     let n = c.variables-n.result in
     let l = c.loop-i in
     let all : l.i ≡ n = omega (arith, c.loop-i-test.false) in
-    first-held h n (2 + n + length words) (c.variables-n.ensures ar 0 S _ (query-cells h)) refl s c.reverse_range.new.s c.requires.in_bounds
+    first-held h n (2 + n + length words) (c.variables-n.ensures ar 0 S _ (query-cells h)) refl s c.reverse_range.new.s c.requires.room
     (c.reverse_range.ensures
     ∙ ap (rev 0 (2 + n + length words))
     (c.copy.ensures
-    ∙ ap (λ (r : List ℕ). sets r (2 + n) (take (length words) words)) (l.invariant.1 ∙ ap (λ (k : ℕ). sets (set (set s 0 (2 + n + length words)) 1 n) 2 (numbers k)) all)))
+    ∙ ap (λ (r : List ℕ). sets r (2 + n) (take (length words) words)) (l.invariant ∙ ap (λ (k : ℕ). sets (set (set s 0 (2 + n + length words)) 1 n) 2 (numbers k)) all)))

@@ -11,7 +11,7 @@ use Rattle.top_level.proofs.park.Goals.{After-reverse_range-2, Start}
 
 -- Of the level that is known to be there.
 known : (c : goal.Start) → Sized c.args.store.now c.args.parked c.args.held
-known c = sized c.requires.some_stored.stored c.requires.held_nonzero
+known c = sized c.requires.stored.stored c.requires.pending
 
 -- What the two reversals leave.
 reversed : (c : goal.After-reverse_range-2) → let a = c.args in
@@ -20,42 +20,16 @@ reversed : (c : goal.After-reverse_range-2) → let a = c.args in
 reversed c =
     let a = c.args in
     c.reverse_range-2.ensures
+    ∙ ap (λ (n : ℕ). rev (a.parked + n) (a.parked + a.held) c.reverse_range.new.s) c.from-length.ensures
     ∙ ap (rev (a.parked + get_or a.store.now (a.parked + a.held - 1) 0) (a.parked + a.held)) c.reverse_range.ensures
-
-pub overflow_add-end : goal.overflow_add-end
-overflow_add-end c = omega (arith, (known (goal.at.overflow_add-end c).Start).whole)
-
-pub offset_bounds-store-end : goal.offset_bounds-store-end
-offset_bounds-store-end c = omega (arith, (known (goal.at.offset_bounds-store-end c).Start).whole)
-
-pub bounds-store-end : goal.bounds-store-end
-bounds-store-end c = omega (arith, (known (goal.at.bounds-store-end c).Start).whole)
-
-pub overflow_cast-length : goal.overflow_cast-length
-overflow_cast-length c = omega (arith, (known (goal.at.overflow_cast-length c).Start).most)
-
-pub reverse_range-requires : goal.reverse_range-requires
-reverse_range-requires c = omega (arith, (known (goal.at.reverse_range-requires c).Start).whole)
-
-pub overflow_add-parked : goal.overflow_add-parked
-overflow_add-parked c =
-    omega (arith, (known (goal.at.overflow_add-parked c).Start).whole, (known (goal.at.overflow_add-parked c).Start).within)
 
 pub reverse_range-requires-2 : goal.reverse_range-requires-2
 reverse_range-requires-2 c =
     omega (arith, (known (goal.at.reverse_range-requires-2 c).Start).whole, (known (goal.at.reverse_range-requires-2 c).Start).within, c.reverse_range.auto.s)
 
-pub bounds-store-parked : goal.bounds-store-parked
-bounds-store-parked c =
-    omega (arith, (known (goal.at.bounds-store-parked c).Start).whole, c.reverse_range-2.auto.s, c.reverse_range.auto.s)
-
 pub overflow_add-store : goal.overflow_add-store
 overflow_add-store c =
-    omega (arith, (known (goal.at.overflow_add-store c).Start).most, (known (goal.at.overflow_add-store c).Start).kept _ (reversed (goal.at.overflow_add-store c).After-reverse_range-2), c.mark_word.ensures, mark-small (mark_of c.args.mark))
-
-pub bounds-store-parked-2 : goal.bounds-store-parked-2
-bounds-store-parked-2 c =
-    omega (arith, (known (goal.at.bounds-store-parked-2 c).Start).whole, c.reverse_range-2.auto.s, c.reverse_range.auto.s)
+    omega (arith, (known (goal.at.overflow_add-store c).Start).most, (known (goal.at.overflow_add-store c).Start).kept _ (reversed (goal.at.overflow_add-store c).After-reverse_range-2), c.from.ensures, mark-small (mark_of c.args.mark))
 
 pub shape_of-store : goal.shape_of-store
 shape_of-store c =
@@ -65,7 +39,7 @@ pub returns : goal.returns
 returns c =
     λ S l g gs p h.
     let a = c.args in
-    let n = first_word h g gs p in
+    let n = c.from-length.ensures ∙ first_word h g gs p in
     let t = c.reverse_range-2.new.s in
-    let e = reversed (goal.at.returns c).After-reverse_range-2 ∙ ap (λ (k : ℕ). rev (a.parked + k) (a.parked + a.held) (rev a.parked (a.parked + a.held) a.store.now)) n in
-    (n, omega (arith, n, first_fits h g gs p), rw n (goal-parked h g gs p t e (mark_of a.mark) _ (ap (λ (k : ℕ). get_or t a.parked 0 + k) c.mark_word.ensures)))
+    let e = reversed (goal.at.returns c).After-reverse_range-2 ∙ ap (λ (k : ℕ). rev (a.parked + k) (a.parked + a.held) (rev a.parked (a.parked + a.held) a.store.now)) (first_word h g gs p) in
+    (n, omega (arith, n, first_fits h g gs p), rw n (goal-parked h g gs p t e (mark_of a.mark) _ (ap (λ (k : ℕ). get_or t a.parked 0 + k) c.from.ensures)))

@@ -2,15 +2,17 @@
 use Rattle.top_level.proofs.TopLaws.{topped}
 use Rattle.top_level.proofs.report.Goals as goal
 
-pub order_goals-counts-requires : goal.order_goals-counts-requires
-order_goals-counts-requires c =
+pub order_goals-pending-requires : goal.order_goals-pending-requires
+order_goals-pending-requires c =
     record {
-      some_stored = record { symbols = c.requires.some_stops.started.deck.symbols; level = c.requires.some_stops.is.level; stored = c.requires.some_stops.is.stored };
-      store_len_bound = c.requires.left_le_budget.1;
+      stored = record { symbols = c.requires.stops.started.deck.symbols; level = c.requires.stops.is.level; stored = c.requires.stops.is.stored };
+      short_store = c.requires.short_store;
     }
 
 pub overflow_sub-result : goal.overflow_sub-result
-overflow_sub-result c = c.requires.left_le_budget.0
+overflow_sub-result c = rw c.left-left.ensures c.requires.within_budget
 
 pub returns : goal.returns
-returns c = λ s answers b h. topped s _ _ _ _ b h (λ l z. c.order_goals-counts.ensures s.deck.symbols l z)
+returns c =
+    λ s answers b h.
+    topped s _ _ _ _ c.steps-steps.result c.left-left.result b c.steps-steps.ensures c.left-left.ensures h (λ l z. c.order_goals-pending.ensures s.deck.symbols l z)

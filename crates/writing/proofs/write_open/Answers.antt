@@ -5,13 +5,14 @@ use mathlib.Core.List.{[]}
 use native.Mathlib.Omega.{arith}
 use lib.ListN.{length, length-append}
 use Rattle.text_rules.specs.TextWriter.{symbols_text, clauses_text, deck_text}
-use Rattle.listing.specs.Put.{Put}
-use Rattle.listing.proofs.PutLaws.{put_then, put-length}
+use Rattle.std.proofs.Common.{rules}
+use Rattle.listing.specs.Put.{Adds}
+use Rattle.listing.proofs.PutLaws.{put_at_start, adds_then, adds-length}
 use Rattle.writing.specs.Writes.{deck_of}
 use Rattle.writing.proofs.TextParts.{deck-parts}
 use Rattle.writing.proofs.DeckLaws.{header-fits, few-symbols, same-symbols, wrote-short, wrote-all}
 use Rattle.writing.proofs.write_open.Goals as goal
-use Rattle.writing.proofs.write_open.Goals.{After-put_symbols-at, Else-text-deck_length}
+use Rattle.writing.proofs.write_open.Goals.{After-put_symbols, Else-text-deck_length}
 
 fits : (c : goal.Else-text-deck_length) → length (deck_text (deck_of c.args.deck.now)) ≤ length c.args.text.now
 fits c = omega (arith, c.if-text-deck_length.false, c.deck_length.ensures)
@@ -23,11 +24,8 @@ both c =
 
 -- The symbols' lines.
 declared :
-    (c : goal.After-put_symbols-at) → Put c.args.text.now 0 (symbols_text 0 (deck_of c.args.deck.now).symbols []) c.put_symbols-at.result c.put_symbols-at.new.out
-declared c = rw (c.symbols.ensures, ← same-symbols c.args.deck.now c.requires) at c.put_symbols-at.ensures
-
-pub deck_length-requires : goal.deck_length-requires
-deck_length-requires c = c.requires
+    (c : goal.After-put_symbols) → Adds c.new-out.result (symbols_text 0 (deck_of c.args.deck.now).symbols []) c.put_symbols.new.out
+declared c = rw (c.symbols.ensures, ← same-symbols c.args.deck.now c.requires) at c.put_symbols.ensures
 
 pub returns-then-text-deck_length : goal.returns-then-text-deck_length
 returns-then-text-deck_length c = wrote-short c.args.deck.now c.args.text.now c.requires (omega (arith, c.if-text-deck_length.true, c.deck_length.ensures))
@@ -35,14 +33,26 @@ returns-then-text-deck_length c = wrote-short c.args.deck.now c.args.text.now c.
 pub symbols-requires : goal.symbols-requires
 symbols-requires c = header-fits c.args.deck.now c.requires
 
-pub put_symbols-at-requires : goal.put_symbols-at-requires
-put_symbols-at-requires c =
-    (rw c.symbols.ensures (few-symbols c.args.deck.now c.requires), rw (c.symbols.ensures, ← same-symbols c.args.deck.now c.requires) (omega (arith, both (goal.at.put_symbols-at-requires c).Else-text-deck_length)))
+pub put_symbols-requires-clause-few_symbols : goal.put_symbols-requires-clause-few_symbols
+put_symbols-requires-clause-few_symbols c = rw c.symbols.ensures (few-symbols c.args.deck.now c.requires)
 
-pub put_clauses-requires : goal.put_clauses-requires
-put_clauses-requires c = (c.requires, let p = declared (goal.at.put_clauses-requires c).After-put_symbols-at in omega (arith, p.place, put-length p, both (goal.at.put_clauses-requires c).Else-text-deck_length))
+pub put_symbols-requires-clause-room : goal.put_symbols-requires-clause-room
+put_symbols-requires-clause-room c =
+    let o = c.new-out.ensures in
+    let b = both (goal.at.put_symbols-requires-clause-room c).Else-text-deck_length in
+    rw (c.symbols.ensures, ← same-symbols c.args.deck.now c.requires) (omega (arith, b, o.start, ap length o.bytes))
+
+pub put_clauses-requires-clause-room : goal.put_clauses-requires-clause-room
+put_clauses-requires-clause-room c =
+    let o = c.new-out.ensures in
+    let b = both (goal.at.put_clauses-requires-clause-room c).Else-text-deck_length in
+    let p = declared (goal.at.put_clauses-requires-clause-room c).After-put_symbols in
+    omega (arith, p.put.place, adds-length p, b, o.start, ap length o.bytes)
 
 pub returns : goal.returns
 returns c =
     let ws = c.args.deck.now in
-    wrote-all ws c.args.text.now c.requires _ _ (fits (goal.at.returns c).Else-text-deck_length) (rw (deck-parts (deck_of ws)) (put_then (declared (goal.at.returns c).After-put_symbols-at) c.put_clauses.ensures))
+    let o = c.new-out.ensures in
+    let a = adds_then (declared (goal.at.returns c).After-put_symbols) c.put_clauses.ensures in
+    wrote-all ws c.args.text.now c.requires _ _ (fits (goal.at.returns c).Else-text-deck_length)
+    (rw (deck-parts (deck_of ws)) (put_at_start o.bytes o.start a (search (rules, o.same_reference, a.same_reference))))

@@ -1,14 +1,12 @@
--- `budget`: the file's digits, or 100,000.
-use mathlib.Core.Path.{ap, sym, ◌∙◌}
-use mathlib.Core.Bool.{Bool}
+-- The text's digits, or 100,000.
+use Rattle.std.proofs.Common.{refl}
 use Rattle.rules.specs.CarryProgram.{budget_from}
-use Rattle.listing.specs.Printed.{file_of}
 use Rattle.carry_program.proofs.input.budget.Goals as goal
 
-pub returns-then-present : goal.returns-then-present
+pub returns-in-Some : goal.returns-in-Some
 unfolding budget_from
-returns-then-present c = let a = c.args in c.digits.ensures ∙ sym (ap (λ (p : Bool). budget_from (file_of p a.text.now)) c.if-present.true)
+returns-in-Some c = rw c.in-Some.is c.digits.ensures
 
-pub returns : goal.returns
+pub returns-in-None : goal.returns-in-None
 unfolding budget_from
-returns c = let a = c.args in sym (ap (λ (p : Bool). budget_from (file_of p a.text.now)) c.if-present.false)
+returns-in-None c = rw c.in-None.is refl

@@ -1,33 +1,22 @@
--- The invariant: the budget is what the digits from i on make of n.
-use Prim.Native.Nat.{ℕ, ◌+◌}
-use mathlib.Core.Path.{refl, ap, sym, ◌∙◌}
-use native.Mathlib.Omega.{arith}
-use lib.ListN.{drop}
+-- Each digit goes into the budget; the first other byte ends it.
+use Rattle.std.proofs.Common.{◌+◌, ℕ, drop, ap, sym, ◌∙◌}
 use Rattle.rules.specs.CarryProgram.{budget_after}
-use Rattle.carry_program.proofs.InputLaws.{budget-goes, budget-ends, budget-stops-low, budget-stops-high}
+use Rattle.carry_program.proofs.InputLaws.{budget_after-digit, budget_after-other, budget_after-end}
 use Rattle.carry_program.proofs.input.digits.Goals as goal
 
-pub loop-i-init : goal.loop-i-init
-loop-i-init c = refl
+pub returns-then-not-is_ascii_digit : goal.returns-then-not-is_ascii_digit
+returns-then-not-is_ascii_digit c =
+    let l = c.loop-byte in
+    sym (budget_after-other l.n c.args.text.now l.byte-index c.loop-byte-test.true (sym c.is_ascii_digit.ensures.value ∙ c.if-not-is_ascii_digit.true)) ∙ l.invariant
 
-pub returns-then-byte-lt48 : goal.returns-then-byte-lt48
-returns-then-byte-lt48 c =
-    let l = c.loop-i in
-    sym (budget-stops-low l.n c.args.text.now l.i (omega arith) c.if-byte-lt48.true) ∙ l.invariant
-
-pub returns-then-byte-gt57 : goal.returns-then-byte-gt57
-returns-then-byte-gt57 c =
-    let l = c.loop-i in
-    sym (budget-stops-high l.n c.args.text.now l.i (omega arith) c.if-byte-lt48.false c.if-byte-gt57.true) ∙ l.invariant
-
-pub loop-i-preserved : goal.loop-i-preserved
-loop-i-preserved c =
-    let l = c.loop-i in
+pub loop-byte-preserved : goal.loop-byte-preserved
+loop-byte-preserved c =
+    let l = c.loop-byte in
     let text = c.args.text.now in
-    ap (λ (m : ℕ). budget_after m (drop (l.i + 1) text)) c.with_digit-n.ensures
-    ∙ sym (budget-goes l.n text l.i (omega arith) c.if-byte-lt48.false c.if-byte-gt57.false) ∙ l.invariant
+    ap (λ (m : ℕ). budget_after m (drop (l.byte-index + 1) text)) c.with_digit-n.ensures
+    ∙ sym (budget_after-digit l.n text l.byte-index c.loop-byte-test.true (sym c.is_ascii_digit.ensures.value ∙ c.if-not-is_ascii_digit.false)) ∙ l.invariant
 
 pub returns : goal.returns
 returns c =
-    let l = c.loop-i in
-    sym (budget-ends l.n c.args.text.now l.i (omega arith)) ∙ l.invariant
+    let l = c.loop-byte in
+    sym (budget_after-end l.n c.args.text.now l.byte-index c.loop-byte-test.false) ∙ l.invariant

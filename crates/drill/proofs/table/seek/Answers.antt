@@ -1,52 +1,20 @@
--- `seek` meets its contract. The loop's invariant: the fillings from f on are those from `from` on. Assumes nothing.
-use Prim.Native.Nat.{◌<◌}
-use mathlib.Core.Path.{refl, ap, sym, ◌∙◌}
-use native.Mathlib.Numerals.{add-one}
+-- `seek` meets its contract: the symbols in order, up to the first one that can begin a filling. Assumes nothing.
+use Rattle.std.proofs.Common.{rules, tests}
+use mathlib.Core.Path.{◌≡◌}
+use mathlib.Core.Bool.{true, false}
 use native.Mathlib.Omega.{arith}
-use lib.ListN.{length}
+use lib.ListN.{get_elem?}
+use Rattle.std.proofs.lemmas.Iterator.{first_from_Range}
 use Rattle.deck.specs.Kinds.{symbols_of}
 use Rattle.drill.specs.Successors.{starts_with}
-use Rattle.drill.proofs.FillLaws.{later-skip, found_here, sought-end, sought-here}
-use Rattle.drill.proofs.WordLaws.{symbols-length, symbol-there}
+use Rattle.drill.proofs.FillLaws.{sought-range}
+use Rattle.drill.proofs.WordLaws.{symbols-length}
 use Rattle.drill.proofs.table.seek.Goals as goal
-
-pub loop-f-init : goal.loop-f-init
-loop-f-init c = (omega (arith, c.requires.m_bound.2), refl)
-
-pub starts-requires : goal.starts-requires
-starts-requires c =
-    record {
-      m_bound = (c.requires.m_bound.0, c.requires.m_bound.1, omega (arith, c.loop-f-test.true, c.count.ensures));
-      known = c.requires.known;
-    }
-
-pub returns-then-starts : goal.returns-then-starts
-returns-then-starts c =
-    let ws = c.args.symbols.now in
-    let f = c.loop-f.f in
-    let l : f < length ws = omega (arith, c.loop-f-test.true, c.count.ensures) in
-    let t = symbol-there ws f l in
-    sought-here (symbols_of ws) c.args.m c.args.k c.args.from f (omega (arith, symbols-length ws, l))
-    (found_here (symbols_of ws) c.args.m c.args.k f c.args.from t.0 c.loop-f.invariant.1 t.1
-    (ap (starts_with (symbols_of ws) c.args.m c.args.k) (sym t.1) ∙ sym c.starts.ensures ∙ c.if-starts.true))
-
-pub loop-f-smaller : goal.loop-f-smaller
-loop-f-smaller c = omega (arith, c.loop-f-test.true, c.count.ensures)
-
-pub loop-f-preserved : goal.loop-f-preserved
-loop-f-preserved c =
-    let ws = c.args.symbols.now in
-    let f = c.loop-f.f in
-    let l : f < length ws = omega (arith, c.loop-f-test.true, c.count.ensures) in
-    let t = symbol-there ws f l in (
-      omega (arith, l),
-      rw add-one
-          (sym (later-skip (symbols_of ws) c.args.m c.args.k f t.0 t.1 (ap (starts_with (symbols_of ws) c.args.m c.args.k) (sym t.1) ∙ sym c.starts.ensures ∙ c.if-starts.false))
-          ∙ c.loop-f.invariant.1),
-    )
 
 pub returns : goal.returns
 returns c =
-    let ws = c.args.symbols.now in
-    let l = c.loop-f in
-    sought-end (symbols_of ws) c.args.m c.args.k c.args.from l.f l.invariant.1 (omega (arith, symbols-length ws, l.invariant.0, c.loop-f-test.false, c.count.ensures))
+    let S = symbols_of c.args.symbols.now in
+    let m = c.args.m in
+    let k = c.args.k in
+    sought-range S m k c.args.from c.count.result c.find.result (omega (arith, c.count.ensures, symbols-length c.args.symbols.now)) (omega (arith, c.count.ensures, c.requires.bounds.2))
+    (first_from_Range _ _ _ _ (λ i. starts_with S m k (get_elem? S i) ≡ true) (λ i. starts_with S m k (get_elem? S i) ≡ false) c.find.ensures.ran (λ x q h. search (rules, tests)) (λ x q h. search (rules, tests)))

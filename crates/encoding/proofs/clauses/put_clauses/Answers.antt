@@ -1,46 +1,45 @@
 -- The invariant: the clauses are written as far as `place`.
+use mathlib.Core.Path.{ap}
 use native.Mathlib.Omega.{arith}
-use Rattle.encoding.proofs.WalkLaws.{takes-name, takes-variable}
+use Rattle.text.specs.Kinds.{kind_of}
 use Rattle.encoding.proofs.CellLaws.{variable-small}
-use Rattle.encoding.proofs.ClauseLaws.{writing-none, writing-ended, start-room, cell_room, writing-on}
+use Rattle.encoding.proofs.ClauseLaws.{writing-none, writing-ended, start-room, cell-place, writing-on}
 use Rattle.encoding.proofs.clauses.put_clauses.Goals as goal
 
-pub loop-s-init : goal.loop-s-init
-loop-s-init c = let a = c.args in writing-none a.text.now a.deck.now a.starts a.cells a.end c.requires.clauses_at
+pub loop-cell-init : goal.loop-cell-init
+loop-cell-init c = let a = c.args in writing-none a.names.now.text a.deck.now a.starts a.cells a.end c.requires.clauses
 
-pub next_token-t-requires : goal.next_token-t-requires
-next_token-t-requires c = c.loop-s.invariant.walked.inside
-
-pub shape_of-deck-then-kind-eq1 : goal.shape_of-deck-then-kind-eq1
-shape_of-deck-then-kind-eq1 c = c.loop-s.invariant.size
-
-pub returns-then-kind-eq1 : goal.returns-then-kind-eq1
-returns-then-kind-eq1 c = let a = c.args in let l = c.loop-s in writing-ended a.text.now a.deck.now l.deck a.starts a.cells l.place l.before l.s c.next_token-t.result c.next_token-t.ensures l.invariant c.if-kind-eq1.true
+pub returns-in-Ending : goal.returns-in-Ending
+returns-in-Ending c =
+    let a = c.args in
+    let l = c.loop-cell in
+    let n = rw c.text-text.ensures at c.next_token-t.ensures in
+    writing-ended a.names.now.text a.deck.now l.deck a.starts a.cells l.place (kind_of l.before) l.s c.next_token-t.result n l.invariant c.in-Ending.is
 
 pub cell_of-cell-requires : goal.cell_of-cell-requires
-cell_of-cell-requires c = let n = c.next_token-t.ensures in
-    record {
-      from_le_to = (c.next_token-t.ensures.forward, c.next_token-t.ensures.inside, variable-small c.args.text.now c.loop-s.place c.next_token-t.result n);
-      numbered = c.requires.numbered;
-    }
-
-pub overflow_add-starts : goal.overflow_add-starts
-overflow_add-starts c = let w = c.loop-s.invariant.walked in omega (arith, w.clauses, c.requires.rooms.apart, c.requires.rooms.inside)
+cell_of-cell-requires c =
+    let n = rw c.text-text.ensures at c.next_token-t.ensures in
+    record { token = (n.forward, n.inside, variable-small c.args.names.now.text c.loop-cell.place c.next_token-t.result n); declared = c.requires.declared }
 
 pub put_start-requires : goal.put_start-requires
-put_start-requires c = let a = c.args in let l = c.loop-s in let w = l.invariant.walked in (λ e q. omega (arith, start-room a.text.now a.deck.now l.deck a.starts a.cells l.place l.before l.s c.next_token-t.result c.next_token-t.ensures l.invariant c.if-kind-eq1.false e q, l.invariant.size, c.requires.rooms.apart, c.requires.rooms.inside), omega (arith, w.cells, c.requires.rooms.few))
-
-pub overflow_add-cells : goal.overflow_add-cells
-overflow_add-cells c = let w = c.loop-s.invariant.walked in omega (arith, w.cells, c.requires.rooms.few)
+put_start-requires c =
+    let a = c.args in
+    let l = c.loop-cell in
+    let n = rw c.text-text.ensures at c.next_token-t.ensures in (
+      λ e q. omega (arith, start-room a.names.now.text a.deck.now l.deck a.starts a.cells l.place (kind_of l.before) l.s c.next_token-t.result n l.invariant c.in_default.not-Ending (ap kind_of e) (ap kind_of q), l.invariant.size, c.requires.rooms.apart, c.requires.rooms.inside),
+      omega (arith, l.invariant.walked.cells, c.requires.rooms.few),
+    )
 
 pub put_cell-requires : goal.put_cell-requires
-put_cell-requires c = let a = c.args in let l = c.loop-s in let room = cell_room a.text.now a.deck.now l.deck a.starts a.cells l.place l.before l.s c.next_token-t.result c.next_token-t.ensures l.invariant c.if-kind-eq1.false in let k = c.next_token-t.result.kind in (λ e. omega (arith, room (takes-name k e), c.put_start.auto.deck, l.invariant.size, c.requires.rooms.inside), λ e. omega (arith, room (takes-variable k e), c.put_start.auto.deck, l.invariant.size, c.requires.rooms.inside))
+put_cell-requires c =
+    let a = c.args in
+    let l = c.loop-cell in
+    let n = rw c.text-text.ensures at c.next_token-t.ensures in
+    cell-place a.names.now.text a.deck.now l.deck a.starts a.cells l.place (kind_of l.before) l.s c.next_token-t.result n l.invariant c.in_default.not-Ending _ (omega (arith, c.put_start.auto.deck, l.invariant.size, c.requires.rooms.inside)) c.cell_of-cell.result c.cell_of-cell.ensures
 
-pub counted-s-requires : goal.counted-s-requires
-counted-s-requires c = let w = c.loop-s.invariant.walked in (w.fewer, omega (arith, c.next_token-t.ensures.later, c.next_token-t.ensures.inside, c.next_token-t.ensures.progress c.if-kind-eq1.false, w.few))
-
-pub loop-s-smaller : goal.loop-s-smaller
-loop-s-smaller c = omega (arith, c.next_token-t.ensures.later, c.next_token-t.ensures.inside, c.next_token-t.ensures.progress c.if-kind-eq1.false)
-
-pub loop-s-preserved : goal.loop-s-preserved
-loop-s-preserved c = let a = c.args in let l = c.loop-s in writing-on a.text.now a.deck.now l.deck a.starts a.cells l.place l.before l.s c.next_token-t.result c.next_token-t.ensures l.invariant c.if-kind-eq1.false c.counted-s.result c.cell_of-cell.result c.counted-s.ensures c.cell_of-cell.ensures _ _ c.requires.rooms.apart c.put_start.ensures c.put_cell.ensures
+pub loop-cell-preserved : goal.loop-cell-preserved
+loop-cell-preserved c =
+    let a = c.args in
+    let l = c.loop-cell in
+    let n = rw c.text-text.ensures at c.next_token-t.ensures in
+    writing-on a.names.now.text a.deck.now l.deck a.starts a.cells l.place (kind_of l.before) l.s c.next_token-t.result n l.invariant c.in_default.not-Ending c.counted-s.result c.cell_of-cell.result c.counted-s.ensures c.cell_of-cell.ensures _ _ c.requires.rooms.apart c.put_start.ensures c.put_cell.ensures

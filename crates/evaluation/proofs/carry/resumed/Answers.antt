@@ -3,24 +3,20 @@ use native.Mathlib.Omega.{arith}
 use Rattle.evaluation.proofs.RunLaws.{topped-as}
 use Rattle.evaluation.proofs.carry.resumed.Goals as goal
 
-pub resume-requires : goal.resume-requires
-resume-requires c = let o = c.requires.some_in_order.in_order in (omega (arith, o.parked_words), o.inside)
-
-pub overflow_sub-end : goal.overflow_sub-end
-overflow_sub-end c = omega (arith, c.requires.some_in_order.in_order.parked_words)
-
 pub from_goals-requires : goal.from_goals-requires
 from_goals-requires c =
     let k = c.resume in
+    let g = c.requires.in_order in
     record {
-      some_opening = record {
-        deck = c.requires.some_in_order.deck;
-        goals = c.requires.some_in_order.goals;
-        parked_goals = c.requires.some_in_order.parked_goals;
-        opens = c.requires.some_in_order.opens;
-        stored = k.ensures c.requires.some_in_order.deck.symbols c.requires.some_in_order.goals c.requires.some_in_order.parked_goals c.requires.some_in_order.in_order;
+      opening = record {
+        deck = g.deck;
+        goals = g.goals;
+        parked_goals = g.parked_goals;
+        opens = g.opens;
+        stored = k.ensures g.deck.symbols g.goals g.parked_goals g.in_order;
       };
-      in_bounds = (c.requires.in_bounds.0, omega (arith, c.requires.in_bounds.1, k.auto.store));
+      short_store = omega (arith, c.requires.short_store, k.auto.store);
+      room = c.requires.room;
     }
 
 pub returns : goal.returns

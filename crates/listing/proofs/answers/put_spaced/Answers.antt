@@ -1,82 +1,40 @@
--- Terms after spaces. The invariant: whatever terms stand in the row, those from `cell` on are still to be printed.
-use Prim.Native.Nat.{◌+◌}
-use mathlib.Core.Path.{◌≡◌, refl, ap, ◌∙◌}
-use mathlib.Core.List.{[], ◌∷◌, ◌++◌}
+-- Terms after spaces.
+use mathlib.Core.Path.{ap, sym, ◌∙◌}
+use mathlib.Core.List.{[], ◌∷◌}
 use native.Mathlib.Omega.{arith}
-use lib.ListN.{set}
-use Rattle.rules.specs.Terms.{Terms, sizes}
-use Rattle.rules.specs.Listing.{print_spaced}
-use Rattle.listing.specs.Standing.{TermsAt, show_term}
-use Rattle.listing.proofs.PutLaws.{Left, all_left, left-room, put_one, put_some, none_left}
-use Rattle.listing.proofs.PrintLaws.{after-space}
-use Rattle.listing.proofs.StandLaws.{Split, split, size-positive, no-terms}
-use Rattle.listing.proofs.answers.put_spaced.Invariants.{RowLeft}
+use Rattle.std.proofs.Common.{false-eqb}
+use Rattle.std.proofs.lemmas.Bool.{eqb-true}
+use lib.ListN.{length, length-drop}
+use Rattle.rules.specs.Terms.{size}
+use Rattle.listing.specs.Standing.{show_term}
+use Rattle.listing.proofs.PutLaws.{left-room, put_some, none_left}
+use Rattle.listing.proofs.StandLaws.{size-positive}
+use Rattle.listing.proofs.RowLaws.{next, spaced, passed_one, ended}
 use Rattle.listing.proofs.answers.put_spaced.Goals as goal
-use Rattle.listing.proofs.answers.put_spaced.Goals.{In-loop-cell}
 
--- Terms whose cells run over the row, those that the caller gives, and what is left of them at the loop's head.
-abbrev Row : goal.In-loop-cell → Type 0
-Row c = (ts : Terms) × TermsAt c.args.symbols.now c.args.cells.now c.args.from ts × (c.args.end ≡ c.args.from + sizes ts)
+pub put-requires : goal.put-requires
+put-requires c =
+    let r = c.requires in
+    left-room (32 ∷ []) _ (spaced (c.loop-cells.invariant r.0 r.1 r.2) (false-eqb _ 0 c.loop-cells-test.ensures)) r.3
 
-abbrev given : (c : goal.In-loop-cell) → Row c
-given c = (c.requires.0, c.requires.1, c.requires.2)
+pub put_term-requires : goal.put_term-requires
+put_term-requires c =
+    let r = c.requires in
+    let l = c.loop-cells.invariant r.0 r.1 r.2 in
+    let n = next l (false-eqb _ 0 c.loop-cells-test.ensures) in
+    (n.first, n.here, left-room (show_term 118 n.first []) _ (put_some (spaced l (false-eqb _ 0 c.loop-cells-test.ensures)) c.put.ensures) r.3)
 
-abbrev row :
-    (c : goal.In-loop-cell) (r : Row c)
-    → RowLeft c.args.symbols.now c.args.cells.now c.args.end c.args.out.now c.args.at (print_spaced r.0 [])
-    c.loop-cell.out c.loop-cell.p c.loop-cell.cell
-row c r = c.loop-cell.invariant r.0 r.1 r.2
+pub loop-cells-smaller : goal.loop-cells-smaller
+loop-cells-smaller c =
+    let r = c.requires in
+    let n = next (c.loop-cells.invariant r.0 r.1 r.2) (false-eqb _ 0 c.loop-cells-test.ensures) in
+    omega (arith, false-eqb _ 0 c.loop-cells-test.ensures, ap length (c.put_term.ensures n.first n.here).passed, length-drop (size n.first) c.loop-cells.cells.now, size-positive n.first)
 
--- The next term, and those after it.
-next : (c : goal.In-loop-cell) (r : Row c) → Split c.args.symbols.now c.args.cells.now c.loop-cell.cell (row c r).others
-next c r = let l = row c r in split _ _ _ l.others l.standing (λ z. omega (arith, l.ends, ap sizes z))
-
-spaced :
-    (c : goal.In-loop-cell) (r : Row c)
-    → Left c.args.out.now c.args.at (print_spaced r.0 []) c.loop-cell.out c.loop-cell.p
-    ((32 ∷ show_term 118 (next c r).first []) ++ print_spaced (next c r).others [])
-spaced c r =
-    let n = next c r in
-    rw (ap (λ (ts : Terms). print_spaced ts []) n.same ∙ after-space n.first n.others) at (row c r).left
-
-after-mark :
-    (c : goal.In-loop-cell) (r : Row c)
-    → Left c.args.out.now c.args.at (print_spaced r.0 []) (set c.loop-cell.out c.loop-cell.p 32) (c.loop-cell.p + 1)
-    (show_term 118 (next c r).first [] ++ print_spaced (next c r).others [])
-after-mark c r = put_some (spaced c r) (put_one c.loop-cell.out c.loop-cell.p 32)
-
-pub loop-cell-init : goal.loop-cell-init
-loop-cell-init c = λ ts a e. record { others = ts; standing = a; ends = e; left = all_left _ _ refl }
-
-pub bounds-out-p : goal.bounds-out-p
-bounds-out-p c = let l = spaced c (given c) in omega (arith, l.place, l.size, c.requires.3)
-
-pub overflow_add-p : goal.overflow_add-p
-overflow_add-p c = let l = spaced (goal.at.overflow_add-p c).In-loop-cell (given (goal.at.overflow_add-p c).In-loop-cell) in omega (arith, l.place, l.size, c.requires.3, c.well_formed)
-
-pub put_term-term-requires : goal.put_term-term-requires
-put_term-term-requires c =
-    let r = given (goal.at.put_term-term-requires c).In-loop-cell in
-    let n = next (goal.at.put_term-term-requires c).In-loop-cell r in
-    (n.first, n.here, left-room (show_term 118 n.first []) _ (after-mark (goal.at.put_term-term-requires c).In-loop-cell r) c.requires.3)
-
-pub loop-cell-smaller : goal.loop-cell-smaller
-loop-cell-smaller c =
-    let n = next (goal.at.loop-cell-smaller c).In-loop-cell (given (goal.at.loop-cell-smaller c).In-loop-cell) in
-    omega (arith, (c.put_term-term.ensures n.first n.here).passed, size-positive n.first, c.loop-cell-test.true)
-
-pub loop-cell-preserved : goal.loop-cell-preserved
-loop-cell-preserved c = λ ts a e.
-    let n = next (goal.at.loop-cell-preserved c).In-loop-cell (ts, a, e) in
-    let w = c.put_term-term.ensures n.first n.here in
-    record {
-      others = n.others;
-      standing = rw w.passed n.after;
-      ends = omega (arith, (row (goal.at.loop-cell-preserved c).In-loop-cell (ts, a, e)).ends, ap sizes n.same, w.passed);
-      left = put_some (after-mark (goal.at.loop-cell-preserved c).In-loop-cell (ts, a, e)) w.put;
-    }
+pub loop-cells-preserved : goal.loop-cells-preserved
+loop-cells-preserved c = λ ts a e.
+    let l = c.loop-cells.invariant ts a e in
+    let n = next l (false-eqb _ 0 c.loop-cells-test.ensures) in
+    passed_one l (false-eqb _ 0 c.loop-cells-test.ensures) c.put.ensures (c.put_term.ensures n.first n.here)
 
 pub returns : goal.returns
-returns c = λ ts a e.
-    let l = c.loop-cell.invariant ts a e in
-    none_left (rw (no-terms l.others (omega (arith, l.ends))) at l.left)
+returns c = λ ts a e. none_left (ended (c.loop-cells.invariant ts a e) (eqb-true _ 0 (sym c.is_empty.ensures ∙ c.loop-cells-test.false)))

@@ -1,15 +1,15 @@
--- `deck_fits`: the three tests are those of `deck_fits`.
-use borrow.Author.Tests.{not-true, not-false, eq-eqb, ne_eqb}
+-- The tests are those of `deck_fits`.
+use Prim.Native.Nat.{◌%◌}
+use mathlib.Core.Path.{refl}
+use borrow.Author.Tests.{eq-eqb, ne_eqb}
+use lib.ListN.{length}
 use Rattle.rules.specs.Program.{even}
 use Rattle.listing.proofs.input.deck_fits.Goals as goal
 
-pub returns-then-not-present : goal.returns-then-not-present
-returns-then-not-present c = rw (not-true c.args.present c.if-not-present.true-raw)
-
-pub returns-then-odd-ne0 : goal.returns-then-odd-ne0
+pub returns-then-bytes-eq0 : goal.returns-then-bytes-eq0
 unfolding even
-returns-then-odd-ne0 c = rw (not-false c.args.present c.if-not-present.false-raw, ne_eqb _ 0 c.if-odd-ne0.true)
+returns-then-bytes-eq0 c = rw (c.in-Some.is, eq-eqb (length c.in-Some.bytes.now % 2) 0 c.if-bytes-eq0.true) refl
 
-pub returns : goal.returns
+pub returns-else-bytes-eq0 : goal.returns-else-bytes-eq0
 unfolding even
-returns c = rw (not-false c.args.present c.if-not-present.false-raw, eq-eqb _ 0 c.if-odd-ne0.false)
+returns-else-bytes-eq0 c = rw (c.in-Some.is, ne_eqb (length c.in-Some.bytes.now % 2) 0 c.if-bytes-eq0.false) refl

@@ -1,22 +1,29 @@
--- The invariant: the words of the bytes from 2 i on are still to be put.
+-- The invariant: the first i words are put.
 use Prim.Native.Nat.{◌/◌}
-use mathlib.Core.Path.{◌≡◌, refl}
+use mathlib.Core.Path.{◌≡◌, ap, sym, ◌∙◌}
+use mathlib.Core.List.{[]}
 use native.Mathlib.Omega.{arith}
-use lib.ListN.{length}
-use Rattle.listing.proofs.PutLaws.{put_one, put_some, none_left}
-use Rattle.listing.proofs.InputLaws.{words-next, words-end}
+use lib.ListN.{length, get_or}
+use lib.Seq.{take_all}
+use Rattle.std.proofs.lemmas.List.{take_more}
+use Rattle.rules.specs.Program.{words_from}
+use Rattle.listing.proofs.PutLaws.{put_next}
+use Rattle.listing.proofs.InputLaws.{words-length, words-at, word_of}
 use Rattle.listing.proofs.input.read_words.Goals as goal
 
 pub loop-i-preserved : goal.loop-i-preserved
 loop-i-preserved c =
-    let l = c.loop-i in
-    let a = c.args in
-    let next = words-next a.bytes.now l.i (omega arith) in
-    (omega arith, refl, put_some (rw (next, ← c.word.ensures) at l.invariant.2) (put_one l.words l.i c.word.result))
+    let bytes = c.args.bytes.now in
+    let i = c.loop-i.i in
+    let inside = words-length bytes in
+    let e : get_or (words_from bytes) i 0 ≡ c.from_le_bytes.result =
+    words-at (length bytes / 2) bytes i (omega arith) (omega (arith, c.loop-i-test.true, c.as_chunks.ensures.front_len))
+    ∙ sym (c.from_le_bytes.ensures ∙ ap (λ pairs. word_of (get_or pairs i [])) c.as_chunks.ensures.front)
+    in
+    rw (take_more (words_from bytes) i 0 (omega (arith, c.loop-i-test.true, c.as_chunks.ensures.front_len, inside)), e) (put_next c.from_le_bytes.result c.loop-i.invariant)
 
 pub returns : goal.returns
 returns c =
-    let l = c.loop-i in
-    let a = c.args in
-    let z : l.i ≡ length a.bytes.now / 2 = omega arith in
-    rw z at (none_left (rw (words-end a.bytes.now l.i (omega arith)) at l.invariant.2))
+    let bytes = c.args.bytes.now in
+    let all : length c.as_chunks.result.0.now ≡ c.loop-i.i = omega (arith, c.loop-i-test.false, c.loop-i.auto.i-end) in
+    rw all (rw (take_all c.loop-i.i (words_from bytes) (omega (arith, all, words-length bytes, c.as_chunks.ensures.front_len))) at c.loop-i.invariant)

@@ -2,36 +2,21 @@
 -- Assumes nothing.
 use Prim.Native.Nat.{◌-◌}
 use native.Mathlib.Omega.{arith}
+use Rattle.std.proofs.lemmas.Result.{err_from_is_err_and}
 use Rattle.matching.specs.Cells.{from}
 use Rattle.matching.specs.Bindings.{elims}
-use Rattle.matching.specs.Tables.{bind_of, trail_of}
 use Rattle.matching.proofs.SeenLaws.{opened, first-inside, args-enough, final-free, below}
-use Rattle.matching.proofs.RanLaws.{args-there, args-fewer, pair-differ, pair-right, pair_same, pair_left, ran-answer, ran-one, ran-none, ran-fails, ran_out, ran-args, none_left, first-fewer, rest-fewer, ran-rest, ran-stop, ran-break}
+use Rattle.matching.proofs.RanLaws.{args-there, args-fewer, pair-differ, pair-right, pair_same, pair_left, ran-one, ran-none, ran-fails, ran_out, ran-args, none_left, first-fewer, rest-fewer, ran-rest, ran-error}
 use Rattle.matching.proofs.unify.+pair_pairs.Goals as goal
 
 pub pair-returns-then-left-eq0 : goal.pair-returns-then-left-eq0
 pair-returns-then-left-eq0 t c = ran_out c.requires c.if-left-eq0.true
 
-pub pair-overflow_sub-rest : goal.pair-overflow_sub-rest
-pair-overflow_sub-rest t c = omega (arith, c.if-left-eq0.false)
+pub pair-bounds-terms-a : goal.pair-bounds-terms-a
+pair-bounds-terms-a t c = c.requires.left.inside
 
-pub pair-offset_bounds-cells-a : goal.pair-offset_bounds-cells-a
-pair-offset_bounds-cells-a t c = omega (arith, c.requires.left.inside, c.well_formed)
-
-pub pair-bounds-cells-a : goal.pair-bounds-cells-a
-pair-bounds-cells-a t c = c.requires.left.inside
-
-pub pair-overflow_cast-c : goal.pair-overflow_cast-c
-pair-overflow_cast-c t c = omega (arith, c.shared_slice_known-3-1.given c.args.a)
-
-pub pair-offset_bounds-cells-b : goal.pair-offset_bounds-cells-b
-pair-offset_bounds-cells-b t c = omega (arith, c.requires.right.inside, c.well_formed)
-
-pub pair-bounds-cells-b : goal.pair-bounds-cells-b
-pair-bounds-cells-b t c = c.requires.right.inside
-
-pub pair-overflow_cast-d : goal.pair-overflow_cast-d
-pair-overflow_cast-d t c = omega (arith, c.shared_slice_known-4-1.given c.args.b)
+pub pair-bounds-terms-b : goal.pair-bounds-terms-b
+pair-bounds-terms-b t c = c.requires.right.inside
 
 pub pair-returns-then-c-d : goal.pair-returns-then-c-d
 pair-returns-then-c-d t c =
@@ -42,7 +27,7 @@ pair-eliminate-requires t c =
     record {
       state = c.requires.state;
       free = final-free c.requires.state.good c.requires.left c.if-c-ge32768.true;
-      fact = c.requires.right;
+      final_place = c.requires.right;
     }
 
 pub pair-returns-then-c-ge32768 : goal.pair-returns-then-c-ge32768
@@ -54,7 +39,7 @@ pair-eliminate-requires-then-d-ge32768 t c =
     record {
       state = c.requires.state;
       free = final-free c.requires.state.good c.requires.right c.if-d-ge32768.true;
-      fact = c.requires.left;
+      final_place = c.requires.left;
     }
 
 pub pair-returns-then-d-ge32768 : goal.pair-returns-then-d-ge32768
@@ -69,14 +54,6 @@ pub pair-arity_of-arity-requires : goal.pair-arity_of-arity-requires
 pair-arity_of-arity-requires t c =
     c.requires.state.good.formed.known _ c.requires.left.inside
 
-pub pair-overflow_add-a : goal.pair-overflow_add-a
-pair-overflow_add-a t c =
-    omega (arith, c.requires.left.inside, c.well_formed)
-
-pub pair-overflow_add-b : goal.pair-overflow_add-b
-pair-overflow_add-b t c =
-    omega (arith, c.requires.right.inside, c.well_formed)
-
 pub pair-pairs-requires : goal.pair-pairs-requires
 pair-pairs-requires t c =
     let a = c.arity_of-arity.ensures in
@@ -89,67 +66,48 @@ pair-returns t c =
 pub pairs-returns-then-number-eq0 : goal.pairs-returns-then-number-eq0
 pairs-returns-then-number-eq0 t c =
     let a = c.args in
-    ran-none 0 a.left c.requires.state (omega arith) (none_left (elims a.symbols.now a.cells.now (bind_of a.table.now) (trail_of a.table.now) a.n) (from a.symbols.now a.cells.now a.p) (from a.symbols.now a.cells.now a.q) a.number c.if-number-eq0.true)
+    ran-none 0 a.left c.requires.state (omega arith) (none_left (elims a.terms.now.symbols.now a.terms.now.cells.now a.table.now.bind a.table.now.trail a.table.now.bound) (from a.terms.now.symbols.now a.terms.now.cells.now a.p) (from a.terms.now.symbols.now a.terms.now.cells.now a.q) a.number c.if-number-eq0.true)
+
+pub pairs-invariant_of-bound : goal.pairs-invariant_of-bound
+pairs-invariant_of-bound t c = record { good = c.requires.state.good }
 
 pub pairs-resolve-a-requires : goal.pairs-resolve-a-requires
-pairs-resolve-a-requires t c =
-    record {
-      good = c.requires.state.good;
-      p_in_bounds = first-inside _ _ c.args.p _ c.if-number-eq0.false c.requires.number_bound;
-    }
+pairs-resolve-a-requires t c = first-inside _ _ c.args.p _ c.if-number-eq0.false c.requires.left_bound
 
 pub pairs-resolve-b-requires : goal.pairs-resolve-b-requires
-pairs-resolve-b-requires t c =
-    record {
-      good = c.requires.state.good;
-      p_in_bounds = first-inside _ _ c.args.q _ c.if-number-eq0.false c.requires.number_bound_2;
-    }
+pairs-resolve-b-requires t c = first-inside _ _ c.args.q _ c.if-number-eq0.false c.requires.right_bound
 
 -- the first of the terms, and the others, on both sides: `opened` at what `resolve` says
-pub pairs-pair-first-requires : goal.pairs-pair-first-requires
-pairs-pair-first-requires t c =
-    let left = opened c.if-number-eq0.false c.requires.number_bound c.resolve-a.ensures in
-    let right = opened c.if-number-eq0.false c.requires.number_bound_2 c.resolve-b.ensures in
+pub pairs-pair-requires : goal.pairs-pair-requires
+pairs-pair-requires t c =
+    let left = opened c.if-number-eq0.false c.requires.left_bound c.resolve-a.ensures in
+    let right = opened c.if-number-eq0.false c.requires.right_bound c.resolve-b.ensures in
     (below c.decreases (first-fewer left right), record { state = c.requires.state; left = left.final; right = right.final })
 
 pub pairs-after_first-p_next-requires : goal.pairs-after_first-p_next-requires
 pairs-after_first-p_next-requires t c =
-    record {
-      formed = c.requires.state.good.formed;
-      number_bound = c.requires.number_bound;
-    }
+    c.requires.left_bound
 
 pub pairs-after_first-q_next-requires : goal.pairs-after_first-q_next-requires
 pairs-after_first-q_next-requires t c =
-    record {
-      formed = c.requires.state.good.formed;
-      number_bound = c.requires.number_bound_2;
-    }
-
-pub pairs-overflow_sub-number : goal.pairs-overflow_sub-number
-pairs-overflow_sub-number t c = omega (arith, c.if-number-eq0.false)
+    c.requires.right_bound
 
 pub pairs-pairs-requires : goal.pairs-pairs-requires
 pairs-pairs-requires t c =
-    let left = opened c.if-number-eq0.false c.requires.number_bound c.resolve-a.ensures in
-    let right = opened c.if-number-eq0.false c.requires.number_bound_2 c.resolve-b.ensures in
-    let w = ran-answer c.pair-first.ensures c.in-Unified.is in
+    let left = opened c.if-number-eq0.false c.requires.left_bound c.resolve-a.ensures in
+    let right = opened c.if-number-eq0.false c.requires.right_bound c.resolve-b.ensures in
+    let w = c.in_ok-rest.ensures in
     (below c.decreases (rest-fewer left right w c.after_first-p_next.ensures c.after_first-q_next.ensures), (w.state, (c.after_first-p_next.ensures.enough, c.after_first-q_next.ensures.enough)))
 
-pub pairs-returns-in-Unified : goal.pairs-returns-in-Unified
-pairs-returns-in-Unified t c =
-    let left = opened c.if-number-eq0.false c.requires.number_bound c.resolve-a.ensures in
-    let right = opened c.if-number-eq0.false c.requires.number_bound_2 c.resolve-b.ensures in
-    ran-rest left right (ran-answer c.pair-first.ensures c.in-Unified.is) c.after_first-p_next.ensures c.after_first-q_next.ensures c.pairs.ensures
+pub pairs-returns : goal.pairs-returns
+pairs-returns t c =
+    let left = opened c.if-number-eq0.false c.requires.left_bound c.resolve-a.ensures in
+    let right = opened c.if-number-eq0.false c.requires.right_bound c.resolve-b.ensures in
+    ran-rest left right c.in_ok-rest.ensures c.after_first-p_next.ensures c.after_first-q_next.ensures c.pairs.ensures
 
-pub pairs-returns-in-Failed : goal.pairs-returns-in-Failed
-pairs-returns-in-Failed t c =
-    let left = opened c.if-number-eq0.false c.requires.number_bound c.resolve-a.ensures in
-    let right = opened c.if-number-eq0.false c.requires.number_bound_2 c.resolve-b.ensures in
-    ran-stop left right (ran-answer c.pair-first.ensures c.in-Failed.is)
-
-pub pairs-returns-in-Broken : goal.pairs-returns-in-Broken
-pairs-returns-in-Broken t c =
-    let left = opened c.if-number-eq0.false c.requires.number_bound c.resolve-a.ensures in
-    let right = opened c.if-number-eq0.false c.requires.number_bound_2 c.resolve-b.ensures in
-    ran-break left right (ran-answer c.pair-first.ensures c.in-Broken.is)
+pub pairs-returns-in_err-rest : goal.pairs-returns-in_err-rest
+pairs-returns-in_err-rest t c =
+    let left = opened c.if-number-eq0.false c.requires.left_bound c.resolve-a.ensures in
+    let right = opened c.if-number-eq0.false c.requires.right_bound c.resolve-b.ensures in
+    let p = err_from_is_err_and c.from_residual.result c.from_residual.ensures.1 in
+    rw (p.1, p.2) (ran-error left right _ c.in_err-rest.ensures)

@@ -1,11 +1,10 @@
--- The invariant: n declarations are passed.
-use Prim.Native.Nat.{◌-◌}
-use lib.ListN.{length}
+-- The invariant: so many declarations are passed.
+use Rattle.std.proofs.Common.{◌-◌, length}
 use Rattle.naming.specs.Walks.{Passed}
 use Rattle.naming.proofs.walks.count.Given as goal
 
 abbrev pub invariant-loop-d : goal.invariant-loop-d
-invariant-loop-d l = Passed l.text l.at l.n
+invariant-loop-d l = Passed l.text l.size.end l.size.count
 
 abbrev pub decreases-loop-d : goal.decreases-loop-d
-decreases-loop-d l = length l.text - l.at
+decreases-loop-d l = length l.text - l.size.end

@@ -1,11 +1,6 @@
--- `fresh::variables` meets its contract. The loop's invariant: `top` is the least number above the variables before i.
-use Prim.Native.Nat.{◌-◌}
-use lib.ListN.{length}
+-- `fresh::variables` meets its contract. The loop's invariant: `top` is the least number above the variables before the cell.
 use Rattle.resolvents.proofs.VariableLaws.{Topped}
 use Rattle.resolvents.proofs.fresh.variables.Given as goal
 
-abbrev pub invariant-loop-i : goal.invariant-loop-i
-invariant-loop-i l = Topped l.cells l.top l.i
-
-abbrev pub decreases-loop-i : goal.decreases-loop-i
-decreases-loop-i l = length l.cells - l.i
+abbrev pub invariant-loop-cell : goal.invariant-loop-cell
+invariant-loop-cell l = Topped l.cells l.top l.cell-index

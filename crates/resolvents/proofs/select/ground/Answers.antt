@@ -1,29 +1,11 @@
--- `select::ground` meets its contract. The loop's invariant: no variable stands before i.
-use native.Mathlib.Omega.{arith}
-use mathlib.Core.Path.{refl}
-use Rattle.resolvents.proofs.VariableLaws.{none_more, one_found, none_found}
+-- `select::ground` meets its contract.
+use Rattle.std.proofs.Common.{ltb, rules, tests}
+use Rattle.std.proofs.lemmas.Iterator.{YieldsList-from_slice}
+use Rattle.std.proofs.lemmas.Iterator.Search.{all_from_yields_List}
+use Rattle.resolvents.proofs.VariableLaws.{none-of}
 use Rattle.resolvents.proofs.select.ground.Goals as goal
 
-pub loop-i-init : goal.loop-i-init
-loop-i-init c = refl
-
-pub offset_bounds-cells-i : goal.offset_bounds-cells-i
-offset_bounds-cells-i c = omega arith
-
-pub bounds-cells-i : goal.bounds-cells-i
-bounds-cells-i c = omega arith
-
-pub returns-then-cells-i-ge32768 : goal.returns-then-cells-i-ge32768
-returns-then-cells-i-ge32768 c = one_found c.args.cells.now c.args.a c.args.e c.loop-i.i c.loop-i.invariant c.requires (omega arith) (omega arith)
-
-pub overflow_add-i : goal.overflow_add-i
-overflow_add-i c = omega arith
-
-pub loop-i-smaller : goal.loop-i-smaller
-loop-i-smaller c = omega arith
-
-pub loop-i-preserved : goal.loop-i-preserved
-loop-i-preserved c = none_more c.args.cells.now c.args.a c.args.e c.loop-i.i c.loop-i.invariant c.requires (omega arith) (omega arith)
-
 pub returns : goal.returns
-returns c = none_found c.args.cells.now c.args.a c.args.e c.loop-i.i c.loop-i.invariant (omega arith)
+returns c =
+    let e = all_from_yields_List (λ k. ltb k 32768) _ _ c.all.result c.all.ensures.ran (YieldsList-from_slice c.args.cells.now cc) (λ x b q k. search (rules, tests)) in
+    rw e (none-of c.args.cells.now)

@@ -9,15 +9,15 @@ use Rattle.resolvents.proofs.select.select_literal.Goals.{After-skip-end}
 walked : (c : goal.After-skip-end) → Walked c.args.symbols.now c.args.cells.now c.loop-at.at c.skip-end.result
 walked c = record { inside = c.loop-at-test.true; within = c.skip-end.ensures.0; next = c.skip-end.ensures.1 }
 
+pub invariant_of-terms : goal.invariant_of-terms
+invariant_of-terms c = record { formed = goal-formed c.requires.is }
+
 pub loop-at-init : goal.loop-at-init
 loop-at-init c = λ S g h. passed_none h
 
 pub skip-end-requires : goal.skip-end-requires
 skip-end-requires c =
-    record {
-      formed = goal-formed c.requires.is;
-      p_in_bounds = c.loop-at-test.true;
-    }
+    c.loop-at-test.true
 
 pub offset_bounds-cells-at : goal.offset_bounds-cells-at
 offset_bounds-cells-at c = omega arith
@@ -27,9 +27,6 @@ bounds-cells-at c = omega arith
 
 pub returns-then-cells-at-lt16384 : goal.returns-then-cells-at-lt16384
 returns-then-cells-at-lt16384 c = λ S g h. passed-positive (walked (goal.at.returns-then-cells-at-lt16384 c).After-skip-end) (c.loop-at.invariant S g h) c.if-cells-at-lt16384.true
-
-pub ground-requires : goal.ground-requires
-ground-requires c = c.skip-end.ensures.0
 
 pub returns-then-ground : goal.returns-then-ground
 returns-then-ground c = λ S g h. passed-negative (walked (goal.at.returns-then-ground c).After-skip-end) (c.loop-at.invariant S g h) c.if-cells-at-lt16384.false (rw c.if-ground.true at c.ground.ensures)
@@ -42,3 +39,9 @@ loop-at-preserved c = λ S g h. passed-more (walked (goal.at.loop-at-preserved c
 
 pub returns : goal.returns
 returns c = λ S g h. passed-all (c.loop-at.invariant S g h) (omega arith)
+
+pub slice_bounds-ground-count : goal.slice_bounds-ground-count
+slice_bounds-ground-count c = let on = walked_on (walked (goal.at.slice_bounds-ground-count c).After-skip-end) in omega arith
+
+pub slice_bounds-ground-start : goal.slice_bounds-ground-start
+slice_bounds-ground-start c = let on = walked_on (walked (goal.at.slice_bounds-ground-start c).After-skip-end) in omega arith

@@ -1,11 +1,10 @@
 -- The invariant: the arguments are counted as far as the place.
-use Prim.Native.Nat.{◌-◌}
-use lib.ListN.{length}
+use Rattle.std.proofs.Common.{◌-◌, length}
 use Rattle.text.proofs.CountLaws.{CountTo}
 use Rattle.text.proofs.arguments.arguments.Given as goal
 
-abbrev pub invariant-loop-t : goal.invariant-loop-t
-invariant-loop-t l = CountTo l.text l.at l.place l.depth l.begun
+abbrev pub invariant-loop-next : goal.invariant-loop-next
+invariant-loop-next l = CountTo l.text l.at l.place l.count
 
-abbrev pub decreases-loop-t : goal.decreases-loop-t
-decreases-loop-t l = length l.text - l.place
+abbrev pub decreases-loop-next : goal.decreases-loop-next
+decreases-loop-next l = length l.text - l.place

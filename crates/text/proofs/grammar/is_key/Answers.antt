@@ -1,12 +1,20 @@
 -- A name of two bytes.
-use Rattle.text.proofs.GrammarLaws.{not-name, not-two, two_bytes}
+use Rattle.std.proofs.Common.{sym, ap, ◌∙◌}
+use lib.Dec.{eqb}
+use lib.Pointwise.{pointwise}
+use Rattle.text.specs.Kinds.{kind_of}
+use Rattle.text.proofs.GrammarLaws.{first-key, second-key, no-key}
 use Rattle.text.proofs.grammar.is_key.Goals as goal
 
-pub returns-then-kind-ne2 : goal.returns-then-kind-ne2
-returns-then-kind-ne2 c = not-name c.args.text.now c.args.kind c.args.from c.args.to c.if-kind-ne2.true
+pub returns-then-eq : goal.returns-then-eq
+returns-then-eq c = λ u k b.
+    first-key u _ (k ∙ ap kind_of c.in-Name.is) b (ap (pointwise eqb _) (sym c.as_slice.ensures) ∙ sym c.eq.ensures ∙ c.if-eq.true) ∙ sym c.if-eq.true
 
-pub returns-then-to-from-ne2 : goal.returns-then-to-from-ne2
-returns-then-to-from-ne2 c = not-two c.args.text.now c.args.kind c.args.from c.args.to c.requires.0 c.requires.1 c.if-to-from-ne2.true
+pub returns-else-eq : goal.returns-else-eq
+returns-else-eq c = λ u k b.
+    second-key u _ (k ∙ ap kind_of c.in-Name.is) b (ap (pointwise eqb _) (sym c.as_slice.ensures) ∙ sym c.eq.ensures ∙ c.if-eq.false)
+    ∙ ap (pointwise eqb _) (sym c.as_slice-else-eq.ensures)
+    ∙ sym c.eq-else-eq.ensures
 
-pub returns : goal.returns
-returns c = two_bytes c.args.text.now c.args.kind c.args.from c.args.to c.requires.0 c.requires.1 c.if-kind-ne2.false c.if-to-from-ne2.false c.two_bytes.result c.two_bytes.ensures
+pub returns-in_default : goal.returns-in_default
+returns-in_default c = λ u k b. no-key c.args.t.kind u c.in_default.not-Name k

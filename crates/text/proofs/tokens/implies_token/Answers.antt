@@ -1,13 +1,10 @@
 -- `:` and the byte after it.
-use mathlib.Core.Path.{sym, ◌∙◌}
-use Rattle.text.proofs.TokenLaws.{colon-last, colon-alone, implies-scanned}
+use Rattle.std.proofs.Common.{sym, ◌∙◌}
+use Rattle.text.proofs.TokenLaws.{colon-alone, implies-scanned}
 use Rattle.text.proofs.tokens.implies_token.Goals as goal
 
-pub returns-then-text-second : goal.returns-then-text-second
-returns-then-text-second c = rw c.one_byte.ensures (colon-last c.args.text.now c.args.from c.requires.0 c.requires.1 c.if-text-second.true)
-
-pub returns-then-class_of-eq7 : goal.returns-then-class_of-eq7
-returns-then-class_of-eq7 c = implies-scanned c.args.text.now c.args.from c.requires.0 c.requires.1 c.if-text-second.false (sym c.class_of.ensures ∙ c.if-class_of-eq7.true)
+pub returns-then-starts_with : goal.returns-then-starts_with
+returns-then-starts_with c = implies-scanned c.args.text.now c.args.from c.requires.0 c.requires.1 (sym c.starts_with.ensures.value ∙ c.if-starts_with.true)
 
 pub returns : goal.returns
-returns c = rw c.one_byte-2.ensures (colon-alone c.args.text.now c.args.from c.requires.0 c.requires.1 c.if-text-second.false (λ q. c.if-class_of-eq7.false (c.class_of.ensures ∙ q)))
+returns c = rw c.one_byte.ensures (colon-alone c.args.text.now c.args.from c.requires.0 c.requires.1 (sym c.starts_with.ensures.value ∙ c.if-starts_with.false))

@@ -1,22 +1,25 @@
 -- The three parts of the line; the place has at most ten digits.
-use native.Mathlib.Omega.{arith}
-use Rattle.listing.proofs.PutLaws.{put_then, put-length}
+use Rattle.std.proofs.Common.{rules, length, ap, arith}
+use Rattle.listing.proofs.PutLaws.{put_at_start, adds_then, adds-length}
 use Rattle.listing.proofs.DigitLaws.{decimal-length}
 use Rattle.text_program.proofs.OutputLaws.{line-parts}
 use Rattle.text_program.proofs.output.put_place.Goals as goal
 
-pub put_prefixed-digits-requires : goal.put_prefixed-digits-requires
-put_prefixed-digits-requires c =
-    let p = c.put-number.ensures in
-    omega (arith, c.put-number.ensures.place, put-length p, decimal-length 9 c.args.place (omega arith))
+pub put_prefixed-requires : goal.put_prefixed-requires
+put_prefixed-requires c =
+    let o = c.new-out.ensures in
+    let a = c.put.ensures in
+    omega (arith, o.start, ap length o.bytes, a.put.place, adds-length a, decimal-length 9 c.args.place (omega arith))
 
-pub put-requires : goal.put-requires
-put-requires c =
-    let p = c.put-number.ensures in
-    let n = c.put_prefixed-digits.ensures in
-    omega (arith, c.put-number.ensures.place, c.put_prefixed-digits.ensures.place, put-length p, put-length n, decimal-length 9 c.args.place (omega arith))
+pub put-requires-2 : goal.put-requires-2
+put-requires-2 c =
+    let o = c.new-out.ensures in
+    let a = c.put.ensures in
+    let b = c.put_prefixed.ensures in
+    omega (arith, o.start, ap length o.bytes, a.put.place, adds-length a, b.put.place, adds-length b, decimal-length 9 c.args.place (omega arith))
 
 pub returns : goal.returns
 returns c =
-    rw (line-parts c.args.place)
-    (put_then (put_then c.put-number.ensures c.put_prefixed-digits.ensures) c.put.ensures)
+    let o = c.new-out.ensures in
+    let a = adds_then (adds_then c.put.ensures c.put_prefixed.ensures) c.put-2.ensures in
+    rw (line-parts c.args.place) (put_at_start o.bytes o.start a (search (rules, o.same_reference, a.same_reference)))

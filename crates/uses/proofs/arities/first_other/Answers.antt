@@ -1,20 +1,15 @@
--- The invariant: the names before j agree.
-use mathlib.Core.Path.{sym, ◌∙◌}
-use native.Mathlib.Omega.{arith}
-use Rattle.uses.proofs.ArityLaws.{agrees-next}
+-- The names in order, up to the first one that has another arity.
+use mathlib.Core.Path.{◌≡◌}
+use mathlib.Core.Bool.{true, false}
+use Rattle.std.proofs.Common.{rules, tests}
+use Rattle.std.proofs.lemmas.Iterator.{first_from_Range}
+use Rattle.uses.specs.Batches.{agrees_at}
+use Rattle.uses.proofs.ArityLaws.{first-from}
 use Rattle.uses.proofs.arities.first_other.Goals as goal
 
-pub loop-j-init : goal.loop-j-init
-loop-j-init c = (omega arith, λ i l. absurd (omega arith))
-
-pub returns-then-not-agrees : goal.returns-then-not-agrees
-returns-then-not-agrees c = record { most = c.loop-j.invariant.0; before = c.loop-j.invariant.1; here = λ l. sym c.agrees.ensures ∙ c.if-not-agrees.true }
-
-pub loop-j-smaller : goal.loop-j-smaller
-loop-j-smaller c = omega (arith, c.loop-j-test.true)
-
-pub loop-j-preserved : goal.loop-j-preserved
-loop-j-preserved c = (omega (arith, c.loop-j-test.true), agrees-next c.args.found.now c.args.given.now c.loop-j.j c.loop-j.invariant.1 (sym c.agrees.ensures ∙ c.if-not-agrees.false))
-
 pub returns : goal.returns
-returns c = record { most = omega arith; before = λ i l. c.loop-j.invariant.1 i (omega (arith, l, c.loop-j-test.false)); here = λ l. absurd (omega arith) }
+returns c =
+    let found = c.args.found.now in
+    let t = c.args.names.now in
+    first-from found t c.len.result c.find.result c.len.ensures.equal
+    (first_from_Range _ _ _ _ (λ i. agrees_at found t i ≡ false) (λ i. agrees_at found t i ≡ true) c.find.ensures.ran (λ x q h. search (rules, tests)) (λ x q h. search (rules, tests)))

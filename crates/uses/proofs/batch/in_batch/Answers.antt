@@ -1,33 +1,36 @@
 -- By the arities that the declarations give to the names of the batch.
-use Prim.Native.Nat.{ℕ}
-use mathlib.Core.Path.{refl, ap, ◌∙◌}
-use native.Mathlib.Omega.{arith}
-use lib.ListN.{length-replicate}
+use mathlib.Core.Path.{◌≡◌, ap, sym, ◌∙◌}
+use mathlib.Core.Option.{some}
+use Rattle.text.specs.declared.names.Entry.{Entry}
 use Rattle.text_rules.specs.Text.{place_of}
-use Rattle.naming.proofs.UseLaws.{blank-cleared}
-use Rattle.uses.proofs.GatherLaws.{zeros, gather-misused, gather-fine}
+use Rattle.uses.proofs.GatherLaws.{gathered-any, gather-misused, gather-fine}
 use Rattle.uses.proofs.batch.in_batch.Goals as goal
+use Rattle.uses.proofs.batch.in_batch.Goals.{After-gather-next}
 
-pub gather-b-requires : goal.gather-b-requires
-gather-b-requires c =
-    record {
-      start_in_bounds = (c.requires.start_in_bounds.0, c.requires.in_bounds.0, c.requires.in_bounds.1);
-      cleared = blank-cleared 4096 1021 refl refl;
-    }
+same : (c : goal.After-gather-next) → c.gather-next.new.names.text ≡ c.args.text.now
+same c = c.gather-next.ensures.text ∙ ap (λ (t : _). t.text) c.new-names.ensures
 
-pub declared-requires : goal.declared-requires
-declared-requires c =
-    record {
-      text_value = (c.requires.start_in_bounds.1, c.gather-b.ensures.gathered.room.entered);
-      distinct = (c.gather-b.ensures.gathered.distinct, omega (arith, c.gather-b.ensures.gathered.room.few, length-replicate {A = ℕ} 4096 0), λ j. zeros 4096 j);
-    }
+pub returns-in-Some : goal.returns-in-Some
+returns-in-Some c =
+    let a = c.args in
+    let t = c.gather-next.new.names in
+    let g = gathered-any t a.start c.gather-next.result c.gather-next.ensures.gathered in
+    let w = gather-misused t a.start g.0 g.1 c.declared-found.result c.declared-found.ensures c.in-Some.j c.in-Some.ensures in
+    rw (sym (same (goal.at.returns-in-Some c).After-gather-next)) (w ∙ ap (λ (x : Entry). some x.from) (sym c.get.ensures.equal))
 
-pub returns-then-j-n : goal.returns-then-j-n
-returns-then-j-n c = let a = c.args in let g = c.gather-b in let f = c.first_other-j in gather-misused a.text.now a.start g.result.next _ _ _ _ _ g.result.names g.ensures.gathered _ c.declared.ensures f.result f.ensures c.if-j-n.true
+pub returns-in-Some-next : goal.returns-in-Some-next
+returns-in-Some-next c =
+    let a = c.args in
+    let t = c.gather-next.new.names in
+    let g = c.in-Some-next.ensures.gathered in
+    rw (sym (same (goal.at.returns-in-Some-next c).After-gather-next))
+    (g.1, g.0.inside, gather-fine t a.start c.in-Some-next.at g.0 c.declared-found.result c.declared-found.ensures c.in_default.ensures)
 
-pub returns-then-b : goal.returns-then-b
+pub returns-in-None : goal.returns-in-None
 unfolding place_of
-returns-then-b c = let a = c.args in let g = c.gather-b in let f = c.first_other-j in ap (place_of a.text.now) (gather-fine a.text.now a.start g.result.next _ _ _ _ _ g.result.names g.ensures.gathered _ c.declared.ensures f.result f.ensures c.if-j-n.false ∙ g.ensures.next_value.0 c.if-b.true)
-
-pub returns : goal.returns
-returns c = let a = c.args in let g = c.gather-b in let f = c.first_other-j in (g.ensures.next_value.1 c.if-b.false, g.ensures.gathered.inside, gather-fine a.text.now a.start g.result.next _ _ _ _ _ g.result.names g.ensures.gathered _ c.declared.ensures f.result f.ensures c.if-j-n.false)
+returns-in-None c =
+    let a = c.args in
+    let t = c.gather-next.new.names in
+    let g = c.in-None.ensures.gathered in
+    rw (sym (same (goal.at.returns-in-None c).After-gather-next))
+    (ap (place_of t.text) (gather-fine t a.start g.0 g.1 c.declared-found.result c.declared-found.ensures c.in_default.ensures ∙ g.2))

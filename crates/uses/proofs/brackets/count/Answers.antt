@@ -1,35 +1,42 @@
--- The invariant: the pairs are counted as far as `at`. Either the text left or the number of open brackets falls.
-use mathlib.Core.Path.{refl, sym, subst}
+-- The pairs are counted as far as the loop has come.
+use mathlib.Core.List.{List}
+use Prim.Native.Nat.{ℕ, ◌+◌, ◌-◌, ◌<◌, ◌≤◌}
+use mathlib.Core.Path.{◌≡◌, ap, sym, ◌∙◌, subst}
 use native.Mathlib.Omega.{arith}
-use lib.ListN.{length}
-use Rattle.uses.specs.Brackets.{Finished}
-use Rattle.uses.proofs.CountingLaws.{count-start, count_fits, count_room, count-done, count-on, count_less}
-use borrow.Author.Rules.{rules}
+use lib.ListN.{length, length-drop, get_or, take, drop}
+use Rattle.std.proofs.lemmas.List.{take_all}
+use Rattle.uses.specs.Pairs.{mark_of, in_brackets}
+use Rattle.uses.specs.Counting.{CountedBy}
+use Rattle.uses.proofs.MarkLaws.{mark_token, marks, marks-next, marks-end, marks-numbers}
+use Rattle.uses.proofs.BracketLaws.{given-full, given-all}
 use Rattle.uses.proofs.brackets.count.Goals as goal
+use Rattle.uses.proofs.brackets.count.Goals.{After-step}
 
-pub loop-who-init : goal.loop-who-init
-loop-who-init c = let a = c.args in count-start a.text.now a.from (length a.given.now) _ _ a.given.now (search rules) (omega arith) (omega arith) refl (search rules)
+-- The bytes that the loop goes over.
+bytes : (text : List ℕ) (from : ℕ) → take (length text - from) (drop from text) ≡ drop from text
+bytes text from = take_all _ _ (omega (arith, length-drop from text))
 
-pub shape_of-given-then-finished : goal.shape_of-given-then-finished
-shape_of-given-then-finished c = c.loop-who.invariant.in_given
+stepped : (c : goal.After-step) → let bs = drop c.args.from c.args.text.now in CountedBy (in_brackets (marks bs)) (c.loop-byte.byte-index + 1) c.step.new.self (marks (drop (c.loop-byte.byte-index + 1) bs))
+stepped c =
+    let bs = drop c.args.from c.args.text.now in
+    let i = c.loop-byte.byte-index in
+    let all = bytes c.args.text.now c.args.from in
+    let inside : i < length bs = rw all at c.loop-byte-test.true in
+    c.step.ensures (in_brackets (marks bs)) i (i + 1) (mark_token (get_or bs i 0)) (marks (drop (i + 1) bs)) (ap (λ l. mark_of (get_or l i 0)) (sym all)) (omega arith)
+    (subst (CountedBy (in_brackets (marks bs)) i c.loop-byte.counting) (marks-next bs i inside) c.loop-byte.invariant)
 
-pub returns-then-finished : goal.returns-then-finished
-returns-then-finished c = let a = c.args in let l = c.loop-who in let n = c.kind_at-kind in count-done a.text.now a.from (length a.given.now) l.at l.c l.who l.begun l.given l.invariant n.result n.ensures (subst (Finished _ _) c.if-finished.true c.finished.ensures)
+pub returns-then-counting-eq0 : goal.returns-then-counting-eq0
+returns-then-counting-eq0 c = λ i k ks l q.
+    let bs = drop c.args.from c.args.text.now in
+    given-full _ _ _ _ _ _ (marks bs) _ (stepped (goal.at.returns-then-counting-eq0 c).After-step) c.if-counting-eq0.true c.if-counting-eq4096.true i k ks l (ap (drop i) (marks-numbers bs) ∙ q)
 
-pub slice_bounds-step-end : goal.slice_bounds-step-end
-slice_bounds-step-end c = sym c.loop-who.invariant.in_who
+pub loop-byte-preserved : goal.loop-byte-preserved
+loop-byte-preserved c = stepped (goal.at.loop-byte-preserved c).After-step
 
-pub slice_bounds-step-end-in-loop-who : goal.slice_bounds-step-end-in-loop-who
-slice_bounds-step-end-in-loop-who c = sym c.loop-who.invariant.in_begun
-
-pub step-c-requires : goal.step-c-requires
-step-c-requires c = let a = c.args in let l = c.loop-who in let n = c.kind_at-kind in count_fits a.text.now a.from (length a.given.now) l.at l.c l.who l.begun l.given l.invariant n.result n.ensures (omega arith)
-
-pub after-at-requires : goal.after-at-requires
-after-at-requires c = let a = c.args in let l = c.loop-who in let n = c.kind_at-kind in count_room a.text.now a.from (length a.given.now) l.at l.c l.who l.begun l.given l.invariant n.result n.ensures (omega arith)
-
-pub loop-who-smaller : goal.loop-who-smaller
-loop-who-smaller c = let a = c.args in let l = c.loop-who in let n = c.kind_at-kind in count_less a.text.now a.from (length a.given.now) l.at l.c l.who l.begun l.given l.invariant n.result n.ensures _ _ _ _ c.step-c.ensures c.after-at.result c.after-at.ensures (subst (Finished _ _) c.if-finished.false c.finished.ensures)
-
-pub loop-who-preserved : goal.loop-who-preserved
-loop-who-preserved c = let a = c.args in let l = c.loop-who in let n = c.kind_at-kind in count-on a.text.now a.from (length a.given.now) l.at l.c l.who l.begun l.given l.invariant n.result n.ensures _ _ _ _ c.step-c.ensures c.after-at.result c.after-at.ensures c.step-c.auto.who c.step-c.auto.begun c.step-c.auto.given
+pub returns : goal.returns
+returns c = λ i k ks l q.
+    let bs = drop c.args.from c.args.text.now in
+    let at = c.loop-byte.byte-index in
+    let past : length bs ≤ at = rw (bytes c.args.text.now c.args.from) at c.loop-byte-test.false in
+    let C : CountedBy (in_brackets (marks bs)) at c.loop-byte.counting _ = subst (CountedBy (in_brackets (marks bs)) at c.loop-byte.counting) (marks-end bs at past) c.loop-byte.invariant in
+    given-all _ _ _ _ _ _ (marks bs) C c.ended.result (λ i h. c.ended.ensures (in_brackets (marks bs)) at C i h) i k ks l (ap (drop i) (marks-numbers bs) ∙ q)

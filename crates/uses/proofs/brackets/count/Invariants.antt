@@ -1,10 +1,11 @@
--- The invariant: the pairs are counted as far as `at`. Either the text left or the number of open brackets falls.
-use lib.ListN.{length}
-use Rattle.uses.proofs.CountingLaws.{CountedTo, measure}
+-- The pairs are counted as far as the loop has come.
+use lib.ListN.{drop}
+use Rattle.uses.specs.Pairs.{in_brackets}
+use Rattle.uses.specs.Counting.{CountedBy}
+use Rattle.uses.proofs.MarkLaws.{marks}
 use Rattle.uses.proofs.brackets.count.Given as goal
 
-abbrev pub invariant-loop-who : goal.invariant-loop-who
-invariant-loop-who l = CountedTo l.text l.from (length l.initial.given) l.at l.c l.who l.begun l.given
-
-abbrev pub decreases-loop-who : goal.decreases-loop-who
-decreases-loop-who l = measure l.text l.c l.at
+abbrev pub invariant-loop-byte : goal.invariant-loop-byte
+invariant-loop-byte l =
+    let bs = drop l.from l.text in
+    CountedBy (in_brackets (marks bs)) l.byte-index l.counting (marks (drop l.byte-index bs))

@@ -3,8 +3,8 @@ use Rattle.text.proofs.CountLaws.{no_arguments}
 use Rattle.uses.proofs.CheckLaws.{some-arguments}
 use Rattle.uses.proofs.checking.arguments.Goals as goal
 
-pub returns-then-after-eq8 : goal.returns-then-after-eq8
-returns-then-after-eq8 c = let a = c.args in let n = c.next_token-after in λ e. some-arguments a.text.now a.t.to n.result n.ensures a.given.now a.i (c.requires.2 e) c.if-after-eq8.true
+pub returns-in-Opening : goal.returns-in-Opening
+returns-in-Opening c = let a = c.args in let n = c.next_token in some-arguments a.text.now a.end n.result n.ensures a.given.now a.i c.requires.2 c.in-Opening.is
 
-pub returns : goal.returns
-returns c = let a = c.args in let n = c.next_token-after in λ e. no_arguments a.text.now a.t.to n.result n.ensures c.if-after-eq8.false
+pub returns-in_default : goal.returns-in_default
+returns-in_default c = let a = c.args in let n = c.next_token in no_arguments a.text.now a.end n.result n.ensures c.in_default.not-Opening

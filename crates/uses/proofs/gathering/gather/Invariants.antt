@@ -7,9 +7,7 @@ use Rattle.uses.proofs.CheckLaws.{PairsTo}
 use Rattle.uses.proofs.gathering.gather.Given as goal
 
 abbrev pub invariant-loop-i : goal.invariant-loop-i
-invariant-loop-i l =
-    PairsTo l.text l.start l.at l.i × Gathered l.text l.start l.at l.froms l.tos l.heads l.befores l.given l.n
-    × (length l.froms ≡ length l.initial.froms) × (length l.tos ≡ length l.initial.tos) × (length l.heads ≡ length l.initial.heads) × (length l.befores ≡ length l.initial.befores) × (length l.given ≡ length l.initial.given)
+invariant-loop-i l = PairsTo l.text l.start l.at l.i × Gathered l.names l.start l.at × (l.names.text ≡ l.text)
 
 abbrev pub decreases-loop-i : goal.decreases-loop-i
 decreases-loop-i l = length l.text - l.at

@@ -1,36 +1,40 @@
--- The table stays as it is, or has a name more.
-use Prim.Native.Nat.{◌≤◌, ◌<◌}
-use mathlib.Core.Path.{refl, sym, ◌∙◌}
+-- A name joins the table, or is there already.
+use Prim.Native.Nat.{◌<◌}
+use mathlib.Core.Path.{refl, ap, sym, ◌∙◌}
 use native.Mathlib.Omega.{arith}
-use lib.Seq.{slice}
-use Rattle.uses.proofs.GatherLaws.{in-given, some-name, gather-forward, noted_other, noted-again, noted-new}
-use borrow.Author.Rules.{rules}
+use borrow.Author.Tests.{eqb-true}
+use lib.ListN.{length}
+use Rattle.uses.proofs.GatherLaws.{found_inside, noted_other, noted-again, noted-new}
 use Rattle.uses.proofs.gathering.note.Goals as goal
 
-pub returns-then-t-ne2 : goal.returns-then-t-ne2
-returns-then-t-ne2 c = let a = c.args in record { more = λ f start at G N g K. noted_other a.text.now start at a.froms.now a.tos.now a.heads.now a.befores.now a.given.now a.n G a.t N g c.if-t-ne2.true; full = λ q start at G. absurd (omega (arith, q, c.requires.2.few)) }
+pub returns-in_default : goal.returns-in_default
+returns-in_default c = let a = c.args in
+    record { text = refl; more = λ q start at G N f. noted_other a.names.now start at G a.t N f c.in_default.not-Name; full = λ q. cc }
 
-pub offset_bounds-given-j : goal.offset_bounds-given-j
-offset_bounds-given-j c = let a = c.args in let h = in-given a.text.now a.froms.now a.tos.now a.heads.now a.befores.now a.given.now a.n c.requires.2 (slice a.t.from a.t.to a.text.now) c.find-j.result c.find-j.ensures c.if-j-ne0.true in search rules
+pub get-requires : goal.get-requires
+get-requires c = found_inside _ _ _ c.in-Some.ensures
 
-pub bounds-given-j : goal.bounds-given-j
-bounds-given-j c = let a = c.args in let h = in-given a.text.now a.froms.now a.tos.now a.heads.now a.befores.now a.given.now a.n c.requires.2 (slice a.t.from a.t.to a.text.now) c.find-j.result c.find-j.ensures c.if-j-ne0.true in h
-
-pub returns-then-given-j : goal.returns-then-given-j
-returns-then-given-j c = let a = c.args in record { more = λ f start at G N g K. noted-again a.text.now start at a.froms.now a.tos.now a.heads.now a.befores.now a.given.now a.n G a.t N g c.if-t-ne2.false a.k (K c.if-t-ne2.false) c.find-j.result c.find-j.ensures c.if-j-ne0.true c.if-given-j.true; full = λ q start at G. absurd (omega (arith, q, c.requires.2.few)) }
-
-pub returns-then-j-ne0 : goal.returns-then-j-ne0
-returns-then-j-ne0 c = let a = c.args in record { more = λ f. absurd (f refl); full = λ q start at G. (G, gather-forward a.text.now start at a.froms.now a.tos.now a.heads.now a.befores.now a.given.now a.n G (some-name a.text.now a.froms.now a.tos.now a.heads.now a.befores.now a.given.now a.n c.requires.2 (slice a.t.from a.t.to a.text.now) c.find-j.result c.find-j.ensures c.if-j-ne0.true)) }
-
-pub returns-then-n-eq4096 : goal.returns-then-n-eq4096
-returns-then-n-eq4096 c = let a = c.args in record { more = λ f. absurd (f refl); full = λ q start at G. (G, gather-forward a.text.now start at a.froms.now a.tos.now a.heads.now a.befores.now a.given.now a.n G (omega (arith, c.if-n-eq4096.true))) }
-
-pub enter-requires : goal.enter-requires
-enter-requires c = let a = c.args in let few : a.n ≤ 4095 = omega (arith, c.requires.2.few, c.if-n-eq4096.false) in
+pub returns-in-Some : goal.returns-in-Some
+returns-in-Some c =
+    let a = c.args in
+    let j = c.in-Some.j in
+    let found = rw c.text-text.ensures at c.in-Some.ensures in
+    let k = rw c.text-text.ensures at c.arguments-value.ensures in
+    let there : j < length a.names.now.entries = found_inside _ _ _ c.in-Some.ensures in
     record {
-      from_le_to = (c.requires.0, c.requires.1, omega (arith, few, c.requires.2.in_froms), omega (arith, few, c.requires.2.in_tos), omega (arith, few, c.requires.2.in_befores), omega (arith, few));
-      entered = c.requires.2.entered;
+      text = refl;
+      more = λ q start at G N f. noted-again a.names.now start at G a.t N f c.in-Name.is c.arguments-value.result k j found (ap (λ (x : _). x.value) (sym c.get.ensures.equal) ∙ eqb-true _ _ q);
+      full = λ q. (refl, omega arith);
     }
 
 pub returns : goal.returns
-returns c = let a = c.args in let few : a.n < 4096 = omega (arith, c.requires.2.few, c.if-n-eq4096.false) in record { more = λ f start at G N g K. noted-new a.text.now start at a.froms.now a.tos.now a.heads.now a.befores.now a.given.now a.n G a.t N g c.if-t-ne2.false a.k (K c.if-t-ne2.false) (sym c.find-j.ensures ∙ c.if-j-ne0.false) few _ _ _ _ c.enter.ensures.froms_after.0 c.enter.ensures.froms_after.1 c.enter.ensures.entered_2 c.enter.auto.befores; full = λ q start at G. absurd (omega (arith, q, few)) }
+returns c =
+    let a = c.args in
+    let unfound = rw c.text-text.ensures at c.in_default-find.ensures in
+    let k = rw c.text-text.ensures at c.arguments-value.ensures in
+    let less : length a.names.now.entries < 4096 = omega (arith, c.len.ensures.equal, c.len.ensures.few, c.if-len-eq4096.false) in
+    record {
+      text = ap (λ (x : _). x.text) c.enter.ensures;
+      more = λ q start at G N f. rw c.enter.ensures (noted-new a.names.now start at G a.t N f c.in-Name.is c.arguments-value.result k unfound less);
+      full = λ q. cc;
+    }

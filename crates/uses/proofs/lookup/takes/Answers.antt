@@ -1,19 +1,20 @@
 -- By the number that the table finds.
 use mathlib.Core.Path.{ap, ◌∙◌}
+use Prim.Native.Nat.{◌%◌}
 use lib.Dec.{eqb}
-use lib.Seq.{slice}
-use Rattle.uses.proofs.TableLaws.{table_none, table-some, in-symbols}
-use borrow.Author.Rules.{rules}
+use Rattle.text.specs.declared.names.Entry.{Entry}
+use Rattle.naming.proofs.FindLaws.{find-below}
+use Rattle.uses.proofs.TableLaws.{table_none, table_some}
 use Rattle.uses.proofs.lookup.takes.Goals as goal
 
-pub returns-then-j-eq0 : goal.returns-then-j-eq0
-returns-then-j-eq0 c = let a = c.args in let j = c.find-j in table_none a.text.now a.froms.now a.tos.now a.heads.now a.befores.now a.symbols.now a.n c.requires.declared (slice a.from a.to a.text.now) j.result j.ensures c.if-j-eq0.true a.arguments
+pub get-requires : goal.get-requires
+get-requires c = find-below c.args.names.now c.requires.1 c.args.bytes.now c.find.result c.find.ensures c.in-Some.j c.in-Some.is
 
-pub offset_bounds-symbols-j : goal.offset_bounds-symbols-j
-offset_bounds-symbols-j c = let a = c.args in let j = c.find-j in let h = in-symbols a.text.now a.froms.now a.tos.now a.heads.now a.befores.now a.symbols.now a.n c.requires.declared (slice a.from a.to a.text.now) j.result j.ensures c.if-j-eq0.false in search rules
+pub returns-in-Some : goal.returns-in-Some
+returns-in-Some c =
+    let a = c.args in
+    ap (λ (e : Entry). eqb (e.value % 256) a.arguments) c.get.ensures.equal
+    ∙ table_some a.names.now c.requires.1 a.bytes.now c.find.result c.find.ensures c.requires.0 c.in-Some.j c.in-Some.is a.arguments
 
-pub bounds-symbols-j : goal.bounds-symbols-j
-bounds-symbols-j c = let a = c.args in let j = c.find-j in in-symbols a.text.now a.froms.now a.tos.now a.heads.now a.befores.now a.symbols.now a.n c.requires.declared (slice a.from a.to a.text.now) j.result j.ensures c.if-j-eq0.false
-
-pub returns : goal.returns
-returns c = let a = c.args in let j = c.find-j in let h = table-some a.text.now a.froms.now a.tos.now a.heads.now a.befores.now a.symbols.now a.n c.requires.declared (slice a.from a.to a.text.now) j.result j.ensures c.requires.from_le_to.2 c.if-j-eq0.false a.arguments in ap (λ k. eqb k a.arguments) c.arity.ensures ∙ h
+pub returns-in-None : goal.returns-in-None
+returns-in-None c = let a = c.args in table_none a.names.now c.requires.1 a.bytes.now c.find.result c.find.ensures c.in-None.is a.arguments

@@ -1,5 +1,4 @@
 -- The invariant: the clauses from i on are still to be written.
-use Prim.Native.Nat.{◌-◌, ◌≤◌}
 use lib.ListN.{drop}
 use Rattle.text_rules.specs.TextWriter.{clauses_text}
 use Rattle.listing.proofs.PutLaws.{Left}
@@ -7,8 +6,4 @@ use Rattle.writing.specs.Writes.{deck_of}
 use Rattle.writing.proofs.clauses.put_clauses.Given as goal
 
 abbrev pub invariant-loop-i : goal.invariant-loop-i
-invariant-loop-i l =
-    (l.i ≤ l.count) × Left l.initial.out l.at (clauses_text (deck_of l.deck).clauses) l.out l.p (clauses_text (drop l.i (deck_of l.deck).clauses))
-
-abbrev pub decreases-loop-i : goal.decreases-loop-i
-decreases-loop-i l = l.count - l.i
+invariant-loop-i l = Left l.initial.out (clauses_text (deck_of l.deck).clauses) l.out (clauses_text (drop l.i (deck_of l.deck).clauses))

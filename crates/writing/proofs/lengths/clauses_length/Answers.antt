@@ -7,7 +7,7 @@ use lib.ListN.{length, drop, length-append}
 use Rattle.text_rules.specs.TextWriter.{clause_text, clauses_text}
 use Rattle.writing.specs.Writes.{deck_of}
 use Rattle.writing.proofs.TextParts.{clauses-next, clauses-end}
-use Rattle.writing.proofs.DeckLaws.{header-fits, starts_fit_lem, known-symbols, clause-count, few-clauses, clause_of, row-short, row-bytes}
+use Rattle.writing.proofs.DeckLaws.{header-fits, starts-fit, known-symbols, clause-count, few-clauses, clause_of, row-short, row-bytes}
 use Rattle.writing.proofs.lengths.clauses_length.Goals as goal
 use Rattle.writing.proofs.lengths.clauses_length.Goals.{At-loop-i, In-loop-i}
 
@@ -23,16 +23,11 @@ symbols-symbols-requires c = header-fits c.args.deck.now c.requires
 pub clause_count-count-requires : goal.clause_count-count-requires
 clause_count-count-requires c = header-fits c.args.deck.now c.requires
 
-pub loop-i-init : goal.loop-i-init
-loop-i-init c = (omega arith, omega arith, omega arith)
+pub clause-requires-clause-header : goal.clause-requires-clause-header
+clause-requires-clause-header c = header-fits c.args.deck.now c.requires
 
-pub clause-requires : goal.clause-requires
-clause-requires c =
-    record {
-      deck_value = header-fits c.args.deck.now c.requires;
-      deck_value_2 = starts_fit_lem c.args.deck.now c.requires;
-      i_in_bounds = omega (arith, c.loop-i-test.true, c.clause_count-count.ensures);
-    }
+pub clause-requires-clause-in_order : goal.clause-requires-clause-in_order
+clause-requires-clause-in_order c = starts-fit c.args.deck.now c.requires
 
 pub clause_length-bytes-requires : goal.clause_length-bytes-requires
 clause_length-bytes-requires c =
@@ -40,7 +35,7 @@ clause_length-bytes-requires c =
     (rw c.symbols-symbols.ensures (known-symbols ws c.requires), row-short ws c.requires c.loop-i.i (inside (goal.at.clause_length-bytes-requires c).In-loop-i) _ _ c.symbols-symbols.ensures c.clause.ensures)
 
 pub overflow_add-bytes : goal.overflow_add-bytes
-overflow_add-bytes c = omega (arith, c.loop-i.invariant.2, c.loop-i-test.true, few (goal.at.overflow_add-bytes c).At-loop-i, c.clause_length-bytes.ensures.1)
+overflow_add-bytes c = omega (arith, c.loop-i.invariant.1, c.loop-i-test.true, few (goal.at.overflow_add-bytes c).At-loop-i, c.clause_length-bytes.ensures.1)
 
 pub loop-i-preserved : goal.loop-i-preserved
 loop-i-preserved c =
@@ -48,16 +43,15 @@ loop-i-preserved c =
     let ws = c.args.deck.now in
     let k = clause_of ws c.requires l.i (inside (goal.at.loop-i-preserved c).In-loop-i) in
     let b = row-bytes ws c.requires l.i (inside (goal.at.loop-i-preserved c).In-loop-i) _ _ c.symbols-symbols.ensures c.clause.ensures in (
-      omega (arith, c.loop-i-test.true),
       omega (
         arith,
-        l.invariant.1,
+        l.invariant.0,
         b,
         c.clause_length-bytes.ensures.0,
         ap length (clauses-next (deck_of ws).clauses l.i k.clause k.place),
         length-append (clause_text k.clause []) (clauses_text (drop (l.i + 1) (deck_of ws).clauses)),
       ),
-      omega (arith, l.invariant.2, c.clause_length-bytes.ensures.1),
+      omega (arith, l.invariant.1, c.clause_length-bytes.ensures.1),
     )
 
 pub returns : goal.returns
@@ -65,4 +59,4 @@ returns c =
     let l = c.loop-i in
     let ws = c.args.deck.now in
     let past : length (deck_of ws).clauses ≤ l.i = omega (arith, c.loop-i-test.false, c.clause_count-count.ensures, clause-count ws c.requires) in
-    (omega (arith, l.invariant.1, ap length (clauses-end (deck_of ws).clauses l.i past)), omega (arith, l.invariant.0, l.invariant.2, few (goal.at.returns c).At-loop-i))
+    (omega (arith, l.invariant.0, ap length (clauses-end (deck_of ws).clauses l.i past)), omega (arith, l.auto.i-end, l.invariant.1, few (goal.at.returns c).At-loop-i))

@@ -1,5 +1,5 @@
 -- The invariant: the length of the clauses from i on is still to be added.
-use Prim.Native.Nat.{◌+◌, ◌-◌, ◌*◌, ◌≤◌}
+use Prim.Native.Nat.{◌+◌, ◌*◌, ◌≤◌}
 use mathlib.Core.Path.{◌≡◌}
 use lib.ListN.{length, drop}
 use Rattle.text_rules.specs.TextWriter.{clauses_text}
@@ -8,9 +8,5 @@ use Rattle.writing.proofs.lengths.clauses_length.Given as goal
 
 abbrev pub invariant-loop-i : goal.invariant-loop-i
 invariant-loop-i l =
-    (l.i ≤ l.count)
-    × (l.bytes + length (clauses_text (drop l.i (deck_of l.deck).clauses)) ≡ length (clauses_text (deck_of l.deck).clauses))
+    (l.bytes + length (clauses_text (drop l.i (deck_of l.deck).clauses)) ≡ length (clauses_text (deck_of l.deck).clauses))
     × (l.bytes ≤ 8194 * l.i)
-
-abbrev pub decreases-loop-i : goal.decreases-loop-i
-decreases-loop-i l = l.count - l.i

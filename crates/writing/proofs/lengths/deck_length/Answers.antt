@@ -15,9 +15,6 @@ symbols-requires c = header-fits c.args.deck.now c.requires
 pub symbols_length-requires : goal.symbols_length-requires
 symbols_length-requires c = rw c.symbols.ensures (few-symbols c.args.deck.now c.requires)
 
-pub clauses_length-requires : goal.clauses_length-requires
-clauses_length-requires c = c.requires
-
 pub returns : goal.returns
 returns c =
     let ws = c.args.deck.now in

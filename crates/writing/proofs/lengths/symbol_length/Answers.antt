@@ -8,9 +8,6 @@ use Rattle.signature.specs.Symbols.{symbol_word}
 use Rattle.writing.proofs.LengthLaws.{symbol-line}
 use Rattle.writing.proofs.lengths.symbol_length.Goals as goal
 
-pub digits-requires-2 : goal.digits-requires-2
-digits-requires-2 c = omega (arith, c.arity.ensures)
-
 pub returns : goal.returns
 returns c =
     let a = c.args in (

@@ -1,7 +1,6 @@
 -- A line by the kind of the symbol.
 use mathlib.Core.Path.{◌≡◌, ap, sym, ◌∙◌}
 use mathlib.Core.List.{[], ◌∷◌}
-use native.Mathlib.Omega.{arith}
 use Rattle.text_rules.specs.TextWriter.{symbol_text}
 use Rattle.deck.specs.Kinds.{symbol_of}
 use Rattle.signature.specs.Symbols.{symbol_word}
@@ -24,14 +23,14 @@ functor-line c =
     let a = c.args in
     functor-text (symbol_word a.symbols.now a.n) a.n (sym c.is_predicate.ensures ∙ c.if-is_predicate.false) ∙ ap (line_text (102 ∷ 110 ∷ 32 ∷ []) a.n) (sym c.arity-arity.ensures)
 
-pub put_line-requires : goal.put_line-requires
-put_line-requires c = (c.requires.1, omega (arith, c.arity-arity.ensures), rw (predicate-line (goal.at.put_line-requires c).Then-is_predicate) at c.requires.2)
+pub put_line-requires-clause-room : goal.put_line-requires-clause-room
+put_line-requires-clause-room c = rw (predicate-line (goal.at.put_line-requires-clause-room c).Then-is_predicate) at c.requires.room
 
 pub returns-then-is_predicate : goal.returns-then-is_predicate
 returns-then-is_predicate c = rw (predicate-line (goal.at.returns-then-is_predicate c).Then-is_predicate) c.put_line.ensures
 
-pub put_line-requires-2 : goal.put_line-requires-2
-put_line-requires-2 c = (c.requires.1, omega (arith, c.arity-arity.ensures), rw (functor-line (goal.at.put_line-requires-2 c).Else-is_predicate) at c.requires.2)
+pub put_line-requires-2-clause-room : goal.put_line-requires-2-clause-room
+put_line-requires-2-clause-room c = rw (functor-line (goal.at.put_line-requires-2-clause-room c).Else-is_predicate) at c.requires.room
 
 pub returns : goal.returns
 returns c = rw (functor-line (goal.at.returns c).Else-is_predicate) c.put_line-2.ensures

@@ -1,6 +1,0 @@
--- `advance` meets its contract; the cells left fall at each call. Assumes nothing.
-use lib.ListN.{length}
-use Rattle.drill.proofs.successor.+advance.Given as goal
-
-abbrev pub decreases-advance : goal.decreases-advance
-decreases-advance l = length l.cells.now

@@ -1,6 +1,0 @@
--- `first_refusal`: the answer is computed.
-
-use Rattle.evaluation.proofs.first_refusal.Goals as goal
-
-pub returns-in-Refused : goal.returns-in-Refused
-returns-in-Refused c = rw c.in-Refused.is

@@ -1,0 +1,18 @@
+-- By the sizes.
+use mathlib.Core.Path.{refl, ap, ◌∙◌}
+use native.Mathlib.Omega.{arith}
+use Rattle.deck.specs.declared.Refusal.TheVariants.{Header}
+use Rattle.reading.proofs.ResultLaws.{fitting, fits-fitting, did-full, did-refuse, many-symbols}
+use Rattle.reading.proofs.many.refusal.Goals as goal
+
+pub returns-then-fits : goal.returns-then-fits
+returns-then-fits c = λ before e.
+    let a = c.args in
+    let f = ap (fitting a.text.now) e ∙ fits-fitting a.text.now a.all.count a.all.end c.sizes_of-s.result c.requires.2 c.sizes_of-s.ensures a.words c.fits.result c.fits.ensures ∙ c.if-fits.true in
+    did-refuse a.text.now before c.requires.0 f before Header (many-symbols a.text.now (omega (arith, c.requires.1, c.requires.2.count))) refl
+
+pub returns-else-fits : goal.returns-else-fits
+returns-else-fits c = λ before e.
+    let a = c.args in
+    did-full a.text.now before c.requires.0
+    (ap (fitting a.text.now) e ∙ fits-fitting a.text.now a.all.count a.all.end c.sizes_of-s.result c.requires.2 c.sizes_of-s.ensures a.words c.fits.result c.fits.ensures ∙ c.if-fits.false)

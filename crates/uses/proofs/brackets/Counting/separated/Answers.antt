@@ -1,0 +1,13 @@
+-- The last pair of the row has one argument more, or nothing changes.
+use native.Mathlib.Omega.{arith}
+use Rattle.uses.proofs.BracketLaws.{comma-inside, comma-none, comma-pair}
+use Rattle.uses.proofs.brackets.Counting.separated.Goals as goal
+
+pub returns-then-self-ne0 : goal.returns-then-self-ne0
+returns-then-self-ne0 c = λ all at to t ts k l C. comma-inside all at to _ _ _ _ _ t ts k l C c.if-self-ne0.true
+
+pub returns-then-self-eq0 : goal.returns-then-self-eq0
+returns-then-self-eq0 c = λ all at to t ts k l C. comma-none all at to _ _ _ _ _ t ts k l C c.if-self-eq0.true
+
+pub returns : goal.returns
+returns c = λ all at to t ts k l C. comma-pair all at to _ _ _ _ _ t ts k l C (omega arith) c.if-self-eq0.false
