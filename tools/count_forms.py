@@ -86,7 +86,7 @@ for n, name, params, clauses, body in functions:
     for fact in re.findall(r'requires[^{]*\{(.*)\}', clauses):
         for part in re.split(r' × ', fact):
             facts[re.sub(r'\b\w+\.(now|old|new)\b', r'_.\1', part.strip(' ()'))].add((n, name))
-show('5', 'facts that three functions or more require', [f'{f} ({len(s)})' for f, s in facts.items() if len(s) >= 3])
+show('5', 'facts that three functions or more require', [(f, len(s)) for f, s in facts.items() if len(s) >= 3])
 
 show('6', 'a buffer and the place in it', [(n, f) for n, f, p, _, _ in functions if re.search(r'out: &mut \[u8\]', p) and re.search(r'\bat: usize', p)])
 show('6', 'arrays that run side by side', lines(r'\b(froms|tos|heads|befores|symbols|given|found|who|begun)\b.* = \[0'))

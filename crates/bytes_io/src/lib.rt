@@ -12,6 +12,7 @@ use std::io::{Read, Write};
 use std::rt::Files;
 
 // Reads until `bytes` is full, the input ends or a read fails. Returns how many bytes stand at the start of `bytes`: those that were taken from the input.
+// A number, so that what `bytes` is afterwards can be said (d), as in `read_file`; `taken` and `contents` lend the bytes themselves.
 pub fn read_full<R: Read>(from: &mut R, bytes: &mut [u8]) -> usize
     ensures in_bounds { IsPrefixLen result bytes.new }
     ensures taken { Consumes (R.remaining from.old) (R.remaining from.new) (take result bytes.new) }
@@ -64,11 +65,8 @@ pub fn count(most: usize, bytes: &[u8]) -> usize
     most.min(bytes.len())
 }
 
-// Writes the bytes to a file, if there are any; a file that could not be written whole is removed.
+// Writes the bytes to a file; one that could not be written whole is removed.
 pub fn keep(rt: &impl Files, path: &str, bytes: &[u8]) {
-    if bytes.is_empty() {
-        return;
-    }
     if let Ok(mut file) = fs::create(rt, path) {
         if file.write_all(bytes).is_err() {
             let _ = fs::remove_file(rt, path);

@@ -27,6 +27,7 @@ fn main(rt: HostRuntime) -> io::Result<()> {
 
 // Reads the deck and the goals from their files, if they are open, and the budget from the input; keeps the goals left, and writes the listing.
 // No more is read than it takes to tell that there is too much; of a budget 32 bytes.
+// No function for all programs takes the rule's function: this contract would stay here, and that function would need one as long, over any rule.
 fn answer<D: Read, G: Read, L: Read, W: Write>(
     rt: &impl Files,
     file: &mut Option<D>,
@@ -50,8 +51,9 @@ fn answer<D: Read, G: Read, L: Read, W: Write>(
     let goals = contents(before, &mut goals_room);
     let limit = taken(input, &mut limit_room);
     let outputs = carry_program::carry_printed(deck, goals, limit, &mut out, &mut left);
-    let g = outputs.goals;
+    if let Some(g) = outputs.goals {
+        keep(rt, "open.goals.new", &left[..g]);
+    }
     let n = outputs.listing;
-    keep(rt, "open.goals.new", &left[..g]);
     to.write_all(&out[..n])
 }

@@ -4,7 +4,7 @@ use mathlib.Core.Path.{◌≡◌, refl, ap, sym}
 use mathlib.Core.List.{List}
 use native.Mathlib.Omega.{arith}
 use lib.ListN.{length}
-use Rattle.rules.specs.Refusals.{Refusal, Checked, refused, accepted}
+use Rattle.rules.specs.Refusals.{Checked, accepted}
 use Rattle.rules.specs.Listing.{listing}
 use Rattle.rules.specs.Evaluation.{Outcome}
 use Rattle.rules.specs.Run.{report}
@@ -12,14 +12,14 @@ use Rattle.rules.specs.Run as run
 use Rattle.rules.specs.CarryProgram.{Kept, kept_listing, kept_goals}
 use Rattle.report.specs.declared.Report.{Report}
 use Rattle.listing.specs.Put.{Put}
-use Rattle.listing.specs.Printed.{Printed}
 use Rattle.listing.specs.Shown.{Shown}
 use Rattle.listing.proofs.PrintedLaws.{put-printed}
-use Rattle.std.specs.Prelude.{Result, Ok, Err}
+use Rattle.std.specs.Prelude.{Result, Ok, Err, Option}
 use Rattle.deck.specs.declared.Refusal.{Refusal as Why}
 use Rattle.carry_program.specs.declared.output.Outputs.{Outputs}
 use Rattle.carry_program.specs.Ends.{Leaves, PrintsOrRefuses}
-use Rattle.carry_program.specs.Finished.{Both, goals_bytes}
+use Rattle.carry_program.specs.Finished.{Both, Keeps}
+use Rattle.deck.specs.Answers.{refusal_for}
 
 -- The outputs of a run, or the line of the refusal in their place.
 pub Leaves-or_refusal :
@@ -29,17 +29,14 @@ unfolding kept_listing listing kept_goals
 Leaves-or_refusal c out left (Ok n) out₁ left₁ m out₂ p q = rw (q.0, q.1) p
 Leaves-or_refusal c out left (Err why) out₁ left₁ m out₂ p q = rw (p.0, p.2, q.1) (record {
   listing = rw p.1 at q.0;
-  goals = record { number = refl; bytes = refl };
+  goals = ((refusal_for why, refl), refl);
 })
 
 module _ {out left : List ℕ} {end : ℕ} {after : List ℕ} (c : Checked Kept) where
-  pub kept-both : {end' : ℕ} {left' : List ℕ} (k : Kept) → c ≡ accepted k → Put out 0 (listing (accepted k.outcome)) end after → end ≤ length out
-      → Printed (goals_bytes k.outcome k.terms) left end' left' → Both c out left end end' after left'
-  unfolding kept_listing kept_goals
-  kept-both k e p h q = rw e (record {
-    listing = put-printed p (omega (arith, p.place));
-    goals = q;
-  })
+  pub kept-both : {m : Option ℕ} {left' : List ℕ} (k : Kept) → c ≡ accepted k → Put out 0 (listing (accepted k.outcome)) end after → end ≤ length out
+      → Keeps c left m left' → Both c out left end m after left'
+  unfolding kept_listing
+  kept-both k e p h q = record { listing = rw e (put-printed p (omega (arith, p.place))); goals = q }
 
 -- The counts of a report are those of the outcome that it shows.
 pub counts_of : (o : Outcome) (r : Report) (list symbol_words : List ℕ) → Shown o r list symbol_words → (length o.pending ≡ r.pending) × (length o.parked ≡ r.parked)

@@ -1,20 +1,28 @@
 -- Budgets in digits, numbers in bytes, and the length of a file of goals.
-use Prim.Native.Nat.{ℕ, ◌+◌, ◌-◌, ◌*◌, ◌%◌, ◌≤◌, ◌<◌, min}
+use Prim.Native.Nat.{ℕ, ◌+◌, ◌-◌, ◌*◌, ◌≤◌, ◌<◌, min}
 use mathlib.Core.Path.{◌≡◌, refl, ap, sym, ◌∙◌}
 use mathlib.Core.Bool.{Bool, true, false, ◌&&◌}
 use mathlib.Core.List.{List, [], ◌∷◌}
 use native.Mathlib.Omega.{arith}
 use native.Mathlib.Numerals.{add-one}
-use borrow.Author.Tests.{le-leb, lt-leb, eq-eqb, ne_eqb, leb-true}
+use Rattle.std.proofs.Common.{Bor, Option as Lent, Some, None, MatchOption, ◌⊎◌, inl, inr}
+use Rattle.std.specs.Prelude.{IfOk}
+use Rattle.std.specs.Bool.{then_some}
+use Rattle.std.specs.Option.{ok_or}
+use Rattle.deck.specs.declared.Refusal.TheVariants.{Goals}
+use Rattle.listing.specs.Printed.{file_of}
+use Rattle.program_parts.specs.Answers.{ComesTo}
+use Rattle.program_parts.proofs.FilterLaws.{filter-none, filter-some}
+use Rattle.program_parts.proofs.SizeLaws.{words-size}
 use lib.ListN.{length, get_or, take, drop, length-drop}
 use Rattle.std.specs.Int.{from_le_bytes}
 use Rattle.std.proofs.Common.{slice_range, w64, zero, suc}
-use lib.Seq.{drop-cons, drop-drop, get_or-drop}
+use lib.Seq.{drop-cons}
 use lib.Dec.{leb}
-use Rattle.rules.specs.Refusals.{bad_goals, refused, accepted, and_then, require, obtain, checked_number}
+use Rattle.rules.specs.Refusals.{bad_goals, refused, accepted, and_then, require, obtain}
 use Rattle.rules.specs.Program.{even}
 use Rattle.rules.specs.CarryProgram.{budget_after, number_from, goals_input}
-use Rattle.std.proofs.Math.Option.{none, some}
+use Rattle.std.proofs.Math.Option.{some}
 
 -- BUDGETS, byte by byte
 budget_after-none : (n : ℕ) (bytes : List ℕ) → length bytes ≡ 0 → budget_after n bytes ≡ n
@@ -63,24 +71,23 @@ number_from-slice bytes at =
     sym (number_from-eight _) ∙ ap (λ (n : ℕ). number_from 8 (take n (drop at bytes))) eight ∙ number_from-take 8 (drop at bytes)
 
 -- FILES OF GOALS, by their lengths
-pub goals_input-missing : goals_input none ≡ refused bad_goals
-unfolding goals_input and_then obtain
-goals_input-missing = refl
+abbrev goals_size : Bor (List ℕ) → Bool
+goals_size bytes = even bytes.now && (leb 24 (length bytes.now) && leb (length bytes.now) 32792)
 
-module _ (bytes : List ℕ) where
-  pub goals_input-odd : (length bytes % 2 ≡ 0 → ⊥) → goals_input (some bytes) ≡ refused bad_goals
-  unfolding goals_input even and_then require obtain
-  goals_input-odd h = rw (ne_eqb (length bytes % 2) 0 h)
+goals-missing : (file : Lent (Bor (List ℕ))) → (file ≡ None) ⊎ ((bytes : Bor (List ℕ)) × (file ≡ Some bytes) × (goals_size bytes ≡ false)) → goals_input (file_of file) ≡ refused bad_goals
+unfolding goals_input and_then require obtain
+goals-missing file (inl e) = rw e refl
+goals-missing file (inr (bytes, e, f)) = rw (e, f) refl
 
-  module _ (e : length bytes % 2 ≡ 0) where
-    pub goals_input-short : length bytes < 24 → goals_input (some bytes) ≡ refused bad_goals
-    unfolding goals_input even and_then require obtain
-    goals_input-short h = rw (eq-eqb (length bytes % 2) 0 e, lt-leb 24 (length bytes) h)
+goals-whole : (bytes : List ℕ) → (even bytes && (leb 24 (length bytes) && leb (length bytes) 32792)) ≡ true → goals_input (some bytes) ≡ accepted bytes
+unfolding goals_input and_then require obtain
+goals-whole bytes e = rw e refl
 
-    pub goals_input-long : 24 ≤ length bytes → 32792 < length bytes → goals_input (some bytes) ≡ refused bad_goals
-    unfolding goals_input even and_then require obtain
-    goals_input-long a h = rw (eq-eqb (length bytes % 2) 0 e, le-leb 24 (length bytes) a, lt-leb (length bytes) 32792 h)
-
-    pub goals_input-whole : 24 ≤ length bytes → length bytes ≤ 32792 → goals_input (some bytes) ≡ accepted bytes
-    unfolding goals_input even and_then require obtain
-    goals_input-whole a h = rw (eq-eqb (length bytes % 2) 0 e, le-leb 24 (length bytes) a, le-leb (length bytes) 32792 h)
+-- What the size's test keeps of a file.
+pub goals-come : {Gives : Bor (List ℕ) → Bool → Type 0} → ((x : Bor (List ℕ)) (b : Bool) → Gives x b → b ≡ goals_size x) → (file kept : Lent (Bor (List ℕ)))
+    → MatchOption file (kept ≡ None) (λ x. (b : Bool) × Gives x b × (kept ≡ then_some b x))
+    → ComesTo (goals_input (file_of file)) (ok_or kept Goals) × IfOk (ok_or kept Goals) (λ bytes. (24 ≤ length bytes.now) × (length bytes.now ≤ 32792))
+goals-come says file None k = (goals-missing file (filter-none goals_size says file None k refl), tt)
+goals-come says file (Some bytes) k =
+    let f = filter-some goals_size says file (Some bytes) k bytes refl in
+    (rw f.0 (goals-whole bytes.now f.1), words-size bytes.now 24 32792 f.1)

@@ -1,8 +1,8 @@
 -- A run that was not refused, as its report and what it leaves of the lists that it was lent.
-use Rattle.std.specs.Prelude.{ℕ, ◌≡◌, List, length}
+use Rattle.std.specs.Prelude.{ℕ, ◌≡◌, List, length, Option, Some, None}
 use Rattle.std.proofs.Math.Option.{some}
 use Rattle.rules.specs.Syntax.{Deck}
-use Rattle.rules.specs.Refusals.{Checked, accepted}
+use Rattle.rules.specs.Refusals.{Refusal, Checked, refused, accepted}
 use Rattle.rules.specs.Decks.{symbol_words, open_deck}
 use Rattle.rules.specs.Stored.{read_open}
 use Rattle.rules.specs.Evaluation.{Outcome}
@@ -11,10 +11,15 @@ use Rattle.report.specs.declared.Report.{Report}
 use Rattle.listing.specs.Printed.{Printed}
 use Rattle.listing.specs.Shown.{Shown}
 
--- The listing and the goals left stand at the start of the two outputs, n and m bytes of them.
-pub record Both (c : Checked Kept) (out left : List ℕ) (n m : ℕ) (out' left' : List ℕ) : Type 0 where
+-- The goals that a run leaves stand at the start of the output, m bytes of them; after a refusal there are none.
+abbrev pub Keeps : Checked Kept → List ℕ → Option ℕ → List ℕ → Type 0
+Keeps c left (Some m) left' = ((k : Kept) × (c ≡ accepted k)) × Printed (kept_goals c) left m left'
+Keeps c left None left' = ((n : Refusal) × (c ≡ refused n)) × (left' ≡ left)
+
+-- The listing and the goals left stand at the start of the two outputs.
+pub record Both (c : Checked Kept) (out left : List ℕ) (n : ℕ) (m : Option ℕ) (out' left' : List ℕ) : Type 0 where
   pub listing : Printed (kept_listing c) out n out'
-  pub goals : Printed (kept_goals c) left m left'
+  pub goals : Keeps c left m left'
 
 -- The bytes of the goals that an outcome leaves.
 abbrev pub goals_bytes : Outcome → ℕ → List ℕ
@@ -41,8 +46,8 @@ module _ (deck_words : List ℕ) (terms : ℕ) (answers store : List ℕ) (r : R
   abbrev pub SomeFinished : Type 0
   SomeFinished = (c : Checked Kept) × Finished c deck_words terms answers store r
 
-  abbrev pub FinishedPrinted : List ℕ → List ℕ → ℕ → ℕ → List ℕ → List ℕ → Type 0
+  abbrev pub FinishedPrinted : List ℕ → List ℕ → ℕ → Option ℕ → List ℕ → List ℕ → Type 0
   FinishedPrinted out left n m out' left' = (c : Checked Kept) → Finished c deck_words terms answers store r → Both c out left n m out' left'
 
-  abbrev pub FinishedKept : List ℕ → ℕ → List ℕ → Type 0
-  FinishedKept left m left' = (c : Checked Kept) → Finished c deck_words terms answers store r → Printed (kept_goals c) left m left'
+  abbrev pub FinishedKept : List ℕ → Option ℕ → List ℕ → Type 0
+  FinishedKept left m left' = (c : Checked Kept) → Finished c deck_words terms answers store r → Keeps c left m left'

@@ -5,18 +5,21 @@ ghost use Rattle.listing.specs.Printed.{file_of};
 ghost use Rattle.program_parts.specs.Answers.{ComesTo};
 
 use deck::Refusal;
+use program::BUDGET;
+use program_parts::are_words;
 
-// The budget that a text of digits is, or 100,000 where there is none.
+// The budget that a text of digits is, or the program's where there is none.
 pub fn budget(text: Option<&[u8]>) -> u32
     ensures { result ≡ budget_from (file_of text.entry) }
 {
     match text {
         Some(text) => digits(text),
-        None => 100000,
+        None => BUDGET,
     }
 }
 
 // The number of the digits before the first other byte, or the greatest of 32 bits.
+// As a loop (c): as `take_while(..).fold(..)` the goal `returns` stays open, that its result is the `fold` over the `take_while` of the text.
 fn digits(text: &[u8]) -> u32
     ensures { result ≡ budget_after 0 text.now }
 {
@@ -30,6 +33,7 @@ fn digits(text: &[u8]) -> u32
     n
 }
 
+// Not one with text's `decimal` (d): that is u16, and a generic one would need a bound with both operations.
 fn with_digit(n: u32, digit: u8) -> u32
     ensures { result ≡ min (10 * n + digit) 4294967295 }
 {
@@ -41,16 +45,8 @@ pub fn goals_file(file: Option<&[u8]>) -> Result<&[u8], Refusal>
     ensures comes { ComesTo (goals_input (file_of file.entry)) result }
     ensures length { IfOk result (λ bytes. (24 ≤ length bytes.now) × (length bytes.now ≤ 32792)) }
 {
-    let Some(bytes) = file else {
-        return Err(Refusal::Goals);
-    };
-    if bytes.len() % 2 != 0 {
-        return Err(Refusal::Goals);
-    }
-    if bytes.len() < 24 || 32792 < bytes.len() {
-        return Err(Refusal::Goals);
-    }
-    Ok(bytes)
+    file.filter(|bytes| are_words(bytes, 24, 32792))
+        .ok_or(Refusal::Goals)
 }
 
 // The number of 64 bits at a place, low byte first.

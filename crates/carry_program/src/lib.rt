@@ -14,6 +14,7 @@ use input::{budget, goals_file, number};
 use listing::input::read_words;
 use output::{Outputs, or_refusal};
 use program::input::{opened_deck, query_words};
+use program::lists::Lists;
 use resolvents::fresh::variables;
 
 mod ending;
@@ -35,7 +36,8 @@ pub fn open_printed(
     or_refusal(printed, out)
 }
 
-// The outputs, or why there are none. Both rooms are parameters: a struct of the two is taken apart again for the refusal's line.
+// The outputs, or why there are none.
+// Both rooms are parameters: a struct of the two would have to promise in each function that it still lends the same two.
 fn asked(
     deck: Option<&[u8]>,
     query: &[u8],
@@ -62,17 +64,22 @@ fn open_run(
 ) -> Result<Outputs, Refusal>
     ensures { Leaves (open_words deck.now query.now budget) out.old left.old result out.new left.new }
 {
-    let mut answers = [0u16; 8192];
-    let mut store = [0u16; 16384];
-    let mut scratch = [0u16; 8192];
+    let mut lists = Lists::new();
+    // `as`, since `u64` has no `From` of `usize`.
     let terms = variables(query) as u64;
-    let report = evaluation::run(deck, query, budget, &mut answers, &mut store, &mut scratch)?;
+    let report = evaluation::run(
+        deck,
+        query,
+        budget,
+        &mut lists.answers,
+        &mut lists.store,
+        &mut lists.scratch,
+    )?;
     let ending = Ending {
         report,
         deck,
         terms,
-        answers: &answers,
-        store: &store,
+        lists: &lists,
     };
     Ok(ending.put(out, left))
 }
@@ -109,6 +116,7 @@ fn carried(
 }
 
 // The same from the deck's words and a file of goals of a possible length on.
+// As open_run but for the call (d): a closure for it would need the clauses of `run` and `carry_on` in the source.
 fn carry_run(
     deck: &[u16],
     goals: &[u8],
@@ -119,29 +127,27 @@ fn carry_run(
     requires { (24 ≤ length goals.now) × (length goals.now ≤ 32792) }
     ensures { Leaves (carry_bytes deck.now goals.now budget) out.old left.old result out.new left.new }
 {
-    let mut answers = [0u16; 8192];
-    let mut store = [0u16; 16384];
-    let mut scratch = [0u16; 8192];
+    let mut lists = Lists::new();
+    // The file's format: three numbers of 8 bytes, then words.
     let pending = number(goals, 0);
     let parked = number(goals, 8);
     let terms = number(goals, 16);
-    read_words(&goals[24..], &mut store);
+    read_words(&goals[24..], &mut lists.store);
     let report = evaluation::carry::carry_on(
         deck,
         pending,
         parked,
         terms,
         budget,
-        &mut answers,
-        &mut store,
-        &mut scratch,
+        &mut lists.answers,
+        &mut lists.store,
+        &mut lists.scratch,
     )?;
     let ending = Ending {
         report,
         deck,
         terms,
-        answers: &answers,
-        store: &store,
+        lists: &lists,
     };
     Ok(ending.put(out, left))
 }

@@ -1,49 +1,82 @@
-// A file of cases, read piece by piece. Its numbers have `WIDTH` bytes, low byte first.
+// A file of cases, read piece by piece.
 #![tactic(auto)]
 
-ghost use Rattle.std.specs.Prelude.{◌≤◌, ℕ, List, length};
+ghost use Rattle.std.specs.Prelude.{◌≡◌, ◌≤◌, ℕ, List, length, IsOk};
 ghost use Rattle.std.specs.Io.KnownBytes.{Consumes};
+ghost use Rattle.case_file.specs.Cases.{Through, TakesNumber, TakesPiece};
 
 use bytes_io::{count, taken};
 use std::io;
 use std::io::Read;
 
-// The next number; a byte that is missing is 0.
-pub fn number<F: Read, const WIDTH: usize>(file: &mut F) -> u32
-    requires { WIDTH ≤ 4 }
-    ensures { (bytes : List ℕ) × (length bytes ≤ WIDTH) × Consumes (F.remaining file.old) (F.remaining file.new) bytes }
-{
-    let mut bytes = [0u8; 4];
-    taken(file, &mut bytes[..WIDTH]);
-    u32::from_le_bytes(bytes)
+// What is left of the file. Its numbers have so many bytes, low byte first.
+#[derive(Drop)]
+pub struct CaseFile<F> {
+    pub file: F,
+    pub width: usize,
+    ghost narrow: { width ≤ 4 },
 }
 
-// The bytes of the next piece, after their number: as many as there is room for.
-pub fn given<'a, F: Read, const WIDTH: usize>(file: &mut F, room: &'a mut [u8]) -> &'a [u8]
-    requires { WIDTH ≤ 4 }
-    ensures { length result.now ≤ length room.old }
-{
-    let length = number::<F, WIDTH>(file) as usize;
-    let n = count(length, room);
-    taken(file, &mut room[..n])
-}
+impl<F: Read> CaseFile<F> {
+    pub fn new(file: F, width: usize) -> CaseFile<F>
+        requires { width ≤ 4 }
+        ensures file { result.file ≡ file }
+        ensures width { result.width ≡ width }
+    {
+        CaseFile { file, width }
+    }
 
-// An input: its length, and then the piece that it begins with; the bytes after the piece are those of the room.
-pub fn input<'a, F: Read, const WIDTH: usize>(file: &mut F, room: &'a mut [u8]) -> &'a [u8]
-    requires { WIDTH ≤ 4 }
-    ensures { length result.now ≤ length room.old }
-{
-    let length = number::<F, WIDTH>(file) as usize;
-    given::<F, WIDTH>(file, room);
-    let n = count(length, room);
-    &room[..n]
-}
+    // The next number; a byte that is missing is 0.
+    pub fn number(&mut self) -> usize
+        ensures taken { (bytes : List ℕ) × (length bytes ≤ self.old.width) × Consumes (F.remaining self.old.file) (F.remaining self.new.file) bytes }
+        ensures width { self.new.width ≡ self.old.width }
+    {
+        let mut bytes = [0u8; 8];
+        taken(&mut self.file, &mut bytes[..self.width]);
+        usize::from_le_bytes(bytes)
+    }
 
-// Prints the line that names a case.
-pub fn title<F: Read, const WIDTH: usize>(rt: &impl Print, file: &mut F) -> io::Result<()>
-    requires { WIDTH ≤ 4 }
-{
-    let mut room = [0u8; 100];
-    let line = given::<F, WIDTH>(file, &mut room);
-    rt.write_all(line)
+    // The bytes of the next piece, after their number: as many as there is room for.
+    pub fn given<'a>(&mut self, room: &'a mut [u8]) -> &'a [u8]
+        ensures in_bounds { length result.now ≤ length room.old }
+        ensures taken { TakesPiece F.remaining self.old.width self.old.file self.new.file result.now }
+        ensures width { self.new.width ≡ self.old.width }
+    {
+        let length = self.number();
+        let n = count(length, room);
+        taken(&mut self.file, &mut room[..n])
+    }
+
+    // An input: its length, and then the piece that it begins with; the bytes after the piece are those of the room.
+    pub fn input<'a>(&mut self, room: &'a mut [u8]) -> &'a [u8]
+        ensures in_bounds { length result.now ≤ length room.old }
+        ensures taken { (m : F) × (piece : List ℕ) × TakesNumber F.remaining self.old.width self.old.file m × TakesPiece F.remaining self.old.width m self.new.file piece }
+        ensures width { self.new.width ≡ self.old.width }
+    {
+        let length = self.number();
+        self.given(room);
+        let n = count(length, room);
+        &room[..n]
+    }
+
+    // Prints the line that names a case.
+    pub fn title(&mut self, rt: &impl Print) -> io::Result<()>
+        ensures taken { (line : List ℕ) × (length line ≤ 100) × TakesPiece F.remaining self.old.width self.old.file self.new.file line }
+        ensures width { self.new.width ≡ self.old.width }
+    {
+        let mut room = [0u8; 100];
+        let line = self.given(&mut room);
+        rt.write_all(line)
+    }
+
+    // Does the same with each case. The file begins with their number.
+    pub fn each<C: Fn(&mut CaseFile<F>) -> io::Result<()>>(&mut self, case: C) -> io::Result<()>
+        requires { C.IsAlwaysCallable case }
+        ensures { IsOk result → (first : CaseFile F) × ((bytes : List ℕ) × (length bytes ≤ self.old.width) × Consumes (F.remaining self.old.file) (F.remaining first.file) bytes) × ((n : ℕ) × Through (λ s r t. C.post case s r t) n first self.new) }
+    {
+        for _ in 0..self.number() {
+            case(self)?;
+        }
+        Ok(())
+    }
 }

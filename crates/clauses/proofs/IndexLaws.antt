@@ -163,7 +163,7 @@ pub record Given (about next : About) (i : ℕ) (d : Deck) (p : ℕ) : Type 0 wh
   pub onward : NextAbout p d.clauses (i + 1) next.ahead
 
 pub given-clause :
-    (about next : About) (given : Option ℕ) (i : ℕ) (d : Deck) (p : ℕ) → GivesClause about given next → given ≡ Some i → open_deck about.clauses.deck.now ≡ accepted d
+    (about next : About) (given : Option ℕ) (i : ℕ) (d : Deck) (p : ℕ) → GivesClause about given next → given ≡ Some i → open_deck about.clauses.deck.words.now ≡ accepted d
     → about.p ≡ p → Given about next i d p
 given-clause about next given i d p s e o q =
     let ahead : about.ahead ≡ Some i = sym s.ahead ∙ e in

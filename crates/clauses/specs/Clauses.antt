@@ -5,11 +5,6 @@ use Rattle.rules.specs.Refusals.{accepted}
 use Rattle.rules.specs.Decks.{open_deck}
 use Rattle.clauses.specs.declared.by_predicate.Index.{Index}
 
--- The deck opens.
-pub record Opens (deck_words : List ℕ) : Type 0 where
-  pub deck : Deck
-  pub opens : open_deck deck_words ≡ accepted deck
-
 -- c is clause i.
 abbrev pub ClauseAt : List Clause → ℕ → Clause → Type 0
 ClauseAt cs i c = drop i cs ≡ c ∷ drop (i + 1) cs

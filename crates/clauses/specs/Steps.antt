@@ -12,7 +12,7 @@ pub record GivesClause (s : About) (given : Option ℕ) (t : About) : Type 0 whe
   pub ahead : given ≡ s.ahead
   pub clauses : t.clauses ≡ s.clauses
   pub predicate : t.p ≡ s.p
-  pub onward : (i : ℕ) → given ≡ Some i → (d : Deck) → open_deck s.clauses.deck.now ≡ accepted d → NextAbout s.p d.clauses (i + 1) t.ahead
+  pub onward : (i : ℕ) → given ≡ Some i → (d : Deck) → open_deck s.clauses.deck.words.now ≡ accepted d → NextAbout s.p d.clauses (i + 1) t.ahead
 
 -- No more clauses than the deck has from the one ahead on.
 abbrev pub count_from : ℕ → Option ℕ → ℕ
@@ -20,4 +20,4 @@ count_from n None = 0
 count_from n (Some i) = n - i
 
 abbrev pub clauses_left : About → Count
-clauses_left s = at_most (count_from (length (clause_words s.clauses.deck.now)) s.ahead)
+clauses_left s = at_most (count_from (length (clause_words s.clauses.deck.words.now)) s.ahead)

@@ -14,7 +14,7 @@ pub struct About<'a> {
     pub clauses: Clauses<'a>,
     pub p: usize,
     pub ahead: Option<usize>,
-    ghost about: { Ahead clauses.deck.now p ahead } by { Prim.hlevel props },
+    ghost about: { Ahead clauses.deck.words.now p ahead } by { Prim.hlevel props },
 }
 
 impl Iterator for About<'_> {

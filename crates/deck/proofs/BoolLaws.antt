@@ -1,12 +1,12 @@
 -- Tests and whether something was found.
-use Prim.Native.Nat.{ℕ, ◌≤◌}
+use Prim.Native.Nat.{ℕ}
 use mathlib.Core.Path.{◌≡◌, refl, ◌∙◌}
-use mathlib.Core.Bool.{Bool, true, false, ◌&&◌, false≢true}
+use mathlib.Core.Bool.{Bool, true, false, ◌&&◌}
 use mathlib.Core.Option.{Option, none, some}
 use mathlib.Core.List.{List, [], ◌∷◌}
 use native.Mathlib.Decide.{ℕ_discrete}
-use lib.Dec.{leb, eqb}
-use borrow.Author.Tests.{eq-eqb, ne_eqb, le-leb, leb-true}
+use lib.Dec.{eqb}
+use borrow.Author.Tests.{eq-eqb, ne_eqb}
 use Rattle.rules.specs.Decks.{read_next, read_all}
 use Rattle.std.specs.List.{list_all}
 use Rattle.deck.specs.Answers.{found}
@@ -45,8 +45,3 @@ pub found_all : {A B : Type 0} (read : A → Option B) (xs : List A) → found (
 unfolding read_all found
 found_all read [] = refl
 found_all read (x ∷ xs) = found-cons read x xs ∙ rw (found_all read xs)
-
--- A bound that holds exactly if a test passes is that test.
-pub leb-same : (a n : ℕ) (b : Bool) → (a ≤ n → b ≡ true) → (b ≡ true → a ≤ n) → leb a n ≡ b
-leb-same a n true f g = le-leb a n (g refl)
-leb-same a n false f g = refuted (leb a n) (λ e. let z : false ≡ true = f (leb-true a n e) in absurd (false≢true z))

@@ -35,13 +35,6 @@ no-variable (Positive k) h = hit (1 ∷ 2 ∷ 3 ∷ 4 ∷ []) 2 tt
 no-variable (Negative k) h = hit (1 ∷ 2 ∷ 3 ∷ 4 ∷ []) 3 tt
 no-variable Invalid h = hit (1 ∷ 2 ∷ 3 ∷ 4 ∷ []) 4 tt
 
-pub no-term : (k : Kind) → ((v : ℕ) → k ≡ Variable v → ⊥) → ((a : ℕ) → k ≡ Function a → ⊥) → Others (2 ∷ 3 ∷ 4 ∷ []) k
-no-term (Variable v) h g = absurd (h v refl)
-no-term (Function k) h g = absurd (g k refl)
-no-term (Positive k) h g = hit (2 ∷ 3 ∷ 4 ∷ []) 2 tt
-no-term (Negative k) h g = hit (2 ∷ 3 ∷ 4 ∷ []) 3 tt
-no-term Invalid h g = hit (2 ∷ 3 ∷ 4 ∷ []) 4 tt
-
 pub no-predicate : (k : Kind) → ((a : ℕ) → k ≡ Positive a → ⊥) → ((a : ℕ) → k ≡ Negative a → ⊥) → Others (0 ∷ 1 ∷ 4 ∷ []) k
 no-predicate (Variable v) h g = hit (0 ∷ 1 ∷ 4 ∷ []) 0 tt
 no-predicate (Function k) h g = hit (0 ∷ 1 ∷ 4 ∷ []) 1 tt

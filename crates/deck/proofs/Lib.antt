@@ -5,6 +5,6 @@ pub mod SymbolLaws
 pub mod RowLaws
 pub mod RefusalLaws
 pub mod OpenLaws
-pub mod WalkLaws
+pub mod CellsLaws
 pub mod PartLaws
 pub mod HeaderLaws

@@ -1,19 +1,17 @@
 -- Where clauses start and end, and the rows of their cells one after the other.
 use Prim.Native.Nat.{ℕ, zero, suc, ◌+◌, ◌-◌, ◌≤◌, ◌<◌}
-use mathlib.Core.Path.{◌≡◌, refl, ap, sym}
-use mathlib.Core.Bool.{true, ◌&&◌, and-eq-true_iff}
-use mathlib.Core.Option.{Option}
+use mathlib.Core.Path.{◌≡◌, refl, ap, sym, ◌∙◌}
+use mathlib.Core.Bool.{Bool, true, ◌&&◌, and-eq-true_iff}
 use mathlib.Core.List.{List, [], ◌∷◌}
 use native.Mathlib.Omega.{arith}
 use native.Mathlib.Numerals.{add-one}
 use lib.ListN.{length, get_or, take, drop, length-drop, drop_of_length-le}
 use lib.Seq.{drop-cons, take_all}
-use lib.Dec.{leb, ltb, eqb}
+use lib.Dec.{ltb, eqb}
 use borrow.Author.Tests.{ltb-true}
-use Rattle.rules.specs.Decks.{rising, starts_fit, clause_row, clause_rows, rows_short, read_all}
-use Rattle.deck.specs.Answers.{found}
+use Rattle.std.specs.List.{list_all, range_with_len}
+use Rattle.rules.specs.Decks.{rising, starts_fit, clause_row, clause_rows}
 use Rattle.deck.specs.Rows.{row_at}
-use Rattle.deck.proofs.BoolLaws.{found-cons}
 
 -- An element that is there, whatever stands for one that is not.
 pub get_or-any : (l : List ℕ) (n d e : ℕ) → n < length l → get_or l n d ≡ get_or l n e
@@ -57,25 +55,18 @@ start_end T (s ∷ ss) i e h =
     let b = (and-eq-true_iff (eqb s 0 && ltb s T) (rising T s ss)).0 e in
     rw add-one (rising-between T s ss i (ltb-true s T ((and-eq-true_iff (eqb s 0) (ltb s T)).0 b.0).1) b.1 (omega arith))
 
--- One row at a time.
-pub rows_from :
-    {A : Type 0} (read : List ℕ → Option A) (cells starts : List ℕ) (i : ℕ) → i < length starts
-    → found (read_all read (clause_rows cells (drop i starts))) ≡ found (read (row_at cells starts i)) && found (read_all read (clause_rows cells (drop (i + 1) starts)))
-rows_from read cells starts i h = rw (rows_at cells starts i h) (found-cons read (row_at cells starts i) (clause_rows cells (drop (i + 1) starts)))
+-- A test of all rows is that of each.
+module _ (test : List ℕ → Bool) (all : List (List ℕ) → Bool) (none : all [] ≡ true) (more : (row : List ℕ) (rows : List (List ℕ)) → all (row ∷ rows) ≡ test row && all rows)
+    (cells starts : List ℕ) where
+  rows-from : (i n : ℕ) → i + n ≡ length starts → list_all (λ k. test (row_at cells starts k)) (range_with_len i n) ≡ all (clause_rows cells (drop i starts))
+  unfolding clause_rows
+  rows-from i zero e = let past : length starts ≤ i = omega arith in rw (drop_of_length-le starts past) (sym none)
+  rows-from i (suc n) e =
+      rw (rows_at cells starts i (omega arith))
+      (ap (test (row_at cells starts i) &&◌) (rows-from (i + 1) n (omega arith)) ∙ sym (more (row_at cells starts i) (clause_rows cells (drop (i + 1) starts))))
 
-pub short_from : (cells starts : List ℕ) (i : ℕ) → i < length starts
-    → rows_short (clause_rows cells (drop i starts)) ≡ leb (length (row_at cells starts i)) 256 && rows_short (clause_rows cells (drop (i + 1) starts))
-unfolding rows_short
-short_from cells starts i h = rw (rows_at cells starts i h)
-
--- Nothing is left past the end.
-pub rows_end : {A : Type 0} (read : List ℕ → Option A) (cells starts : List ℕ) (i : ℕ) → length starts ≤ i → found (read_all read (clause_rows cells (drop i starts))) ≡ true
-unfolding read_all found clause_rows
-rows_end read cells starts i h = rw (drop_of_length-le starts h)
-
-pub short_end : (cells starts : List ℕ) (i : ℕ) → length starts ≤ i → rows_short (clause_rows cells (drop i starts)) ≡ true
-unfolding rows_short clause_rows
-short_end cells starts i h = rw (drop_of_length-le starts h)
+  pub each-row : (r : Bool) → r ≡ list_all (λ k. test (row_at cells starts k)) (range_with_len 0 (length starts)) → r ≡ all (clause_rows cells starts)
+  each-row r e = e ∙ rows-from 0 (length starts) (omega arith)
 
 -- Starts that rise, one at a time.
 pub rising_from :
@@ -87,16 +78,3 @@ rising_from T before starts i h = rw (add-one i, drop-cons starts i 0 h)
 pub rising_end : (T before : ℕ) (starts : List ℕ) (i : ℕ) → length starts ≤ i → rising T before (drop i starts) ≡ true
 unfolding rising
 rising_end T before starts i h = rw (drop_of_length-le starts h)
-
--- The starts as the code tests them.
-pub starts_none : (T : ℕ) (starts : List ℕ) → length starts ≡ 0 → starts_fit T starts ≡ eqb T 0
-unfolding starts_fit
-starts_none T [] e = refl
-starts_none T (s ∷ ss) e = absurd (omega arith)
-
-pub starts-some :
-    (T : ℕ) (starts : List ℕ) → (length starts ≡ 0 → ⊥)
-    → starts_fit T starts ≡ eqb (get_or starts 0 0) 0 && ltb (get_or starts 0 0) T && rising T (get_or starts 0 0) (drop 1 starts)
-unfolding starts_fit
-starts-some T [] h = absurd (h refl)
-starts-some T (s ∷ ss) h = refl

@@ -24,9 +24,13 @@ refusal_for LooseClause = rules.loose_clause
 refusal_for LooseQuery = rules.loose_query
 refusal_for Drill = rules.bad_drill
 
+-- The number of an answer, whatever is handed on where nothing is refused.
+abbrev pub answer_number : {A : Type 0} → Result A Refusal → ℕ
+answer_number (Ok a) = 0
+answer_number (Err why) = rules.refusal_number (refusal_for why)
+
 abbrev pub number_of : Result (Unit {0}) Refusal → ℕ
-number_of (Ok u) = 0
-number_of (Err why) = rules.refusal_number (refusal_for why)
+number_of r = answer_number r
 
 -- Whether something was read.
 unfoldable pub found : {A : Type 0} → Option A → Bool

@@ -1,5 +1,5 @@
 -- Cells read forward, with the number of terms that are still to come and the number of variables that have appeared.
-use Rattle.std.specs.Prelude.{ℕ, zero, suc, ◌+◌, ◌≤◌, max, ◌≡◌, Bool, true, false, ◌&&◌, List, [], ◌∷◌, drop, leb, Option, Some, None}
+use Rattle.std.specs.Prelude.{ℕ, zero, suc, ◌+◌, ◌≤◌, ◌<◌, max, ◌≡◌, Bool, true, false, ◌&&◌, List, [], ◌∷◌, leb, Option, Some, None}
 use Rattle.rules.specs.Syntax.{Symbol}
 use Rattle.rules.specs.Cells.{read_cell}
 use Rattle.deck.specs.declared.kinds.Kind.{Kind}
@@ -23,12 +23,7 @@ scan S [] zero next = true
 scan S [] (suc todo) next = false
 scan S (c ∷ cs) todo next = scan_cell (kind_of (read_cell S c)) todo next (scan S cs)
 
--- What a walk over `number` terms from place `at` on says of the scan, however many terms are to come after them.
-abbrev pub Walked : List Symbol → List ℕ → ℕ → ℕ → ℕ → Option (ℕ × ℕ) → Type 0
-Walked S cells at number next (Some p) = (at ≤ p.0) × ((m : ℕ) → scan S (drop at cells) (number + m) next ≡ scan S (drop p.0 cells) m p.1)
-Walked S cells at number next None = (m : ℕ) → scan S (drop at cells) (number + m) next ≡ false
-
--- The same of a literal.
-abbrev pub LiteralWalked : List Symbol → List ℕ → ℕ → ℕ → Option (ℕ × ℕ) → Type 0
-LiteralWalked S cells at next (Some p) = (suc at ≤ p.0) × (scan S (drop at cells) 0 next ≡ scan S (drop p.0 cells) 0 p.1)
-LiteralWalked S cells at next None = scan S (drop at cells) 0 next ≡ false
+-- One cell with `room` cells after it: how the scan goes on, or that it does not pass, if the cells after it cannot hold more than `room` terms.
+abbrev pub Stepped : ℕ → Kind → ℕ → ℕ → Option (ℕ × ℕ) → Type 0
+Stepped room kind todo next (Some p) = (p.0 ≤ room) × (p.1 ≤ next + 1) × ((go : ℕ → ℕ → Bool) → scan_cell kind todo next go ≡ go p.0 p.1)
+Stepped room kind todo next None = (go : ℕ → ℕ → Bool) → ((t n : ℕ) → room < t → go t n ≡ false) → scan_cell kind todo next go ≡ false

@@ -8,16 +8,10 @@ use crate::kinds::Kind;
 use crate::rows::Rows;
 use crate::{kinds, terms};
 
-#[tactic(auto, using(crate::proofs::RowLaws::rows_from, crate::proofs::RowLaws::rows_end))]
 pub fn fit(symbols: &[u16], rows: &Rows) -> bool
     ensures { result ≡ found (read_all (read_clause (symbols_of symbols.now)) (clause_rows rows.now.cells.now rows.now.starts.now)) }
 {
-    for i in 0..rows.starts.len() {
-        if !clause(symbols, rows.row(i)) {
-            return false;
-        }
-    }
-    true
+    (0..rows.starts.len()).all(|i| clause(symbols, rows.row(i)))
 }
 
 // A positive literal, the head, and then literals.

@@ -7,33 +7,37 @@ ghost use Rattle.rules.specs.Decks.{header_fits};
 pub fn fit(deck: &[u16]) -> bool
     ensures { result ≡ header_fits deck.now }
 {
-    if deck.len() < 8 {
-        return false;
-    }
-    if 16384 < deck.len() {
-        return false;
-    }
-    let symbols = usize::from(deck[1]);
-    let starts = 8 + symbols;
-    let cells = starts + usize::from(deck[3]);
-    let total = cells + usize::from(deck[5]);
-    if symbols < 1 {
-        return false;
-    }
-    if 4096 < symbols {
-        return false;
-    }
-    if deck.len() != total {
-        return false;
-    }
-    deck.starts_with(&[
+    let [
         1,
-        deck[1],
+        symbols @ 1..=4096,
         8,
-        deck[3],
-        starts as u16,
-        deck[5],
-        cells as u16,
-        total as u16,
-    ])
+        clauses,
+        starts,
+        terms,
+        cells,
+        total,
+        ..
+    ] = deck
+    else {
+        return false;
+    };
+    let first_start = 8 + usize::from(*symbols);
+    let first_cell = first_start + usize::from(*clauses);
+    let end = first_cell + usize::from(*terms);
+    if usize::from(*starts) != first_start {
+        return false;
+    }
+    if usize::from(*cells) != first_cell {
+        return false;
+    }
+    if usize::from(*total) != end {
+        return false;
+    }
+    if deck.len() != end {
+        return false;
+    }
+    if 16384 < end {
+        return false;
+    }
+    true
 }

@@ -4,7 +4,7 @@ ghost use Rattle.std.proofs.Math.ListN.{get_elem?};
 ghost use Rattle.rules.specs.Cells.{read_cell, symbol_cell, negated_cell};
 ghost use Rattle.deck.specs.Kinds.{symbols_of, kind_of};
 
-// A variable with its number; a functor, a predicate, a negated predicate with its arity; or no cell.
+// A variable with its number; a functor, a predicate, a negated predicate with its arity; or no cell, a kind as in the rules' cells.
 #[derive(Clone, Copy, Debug, PartialEq, Eq)]
 pub enum Kind {
     Variable(usize),

@@ -1,22 +1,23 @@
 // Opening a deck and checking a query (document 01, "The deck" and "Who can make the engine refuse"), and the deck's parts as the engine reads them.
 #![tactic(auto)]
 
-ghost use Rattle.std.specs.Prelude.{◌≡◌};
+ghost use Rattle.std.specs.Prelude.{◌≡◌, IfOk};
 ghost use Rattle.rules.specs.Refusals.{checked_number, refusal_number};
 ghost use Rattle.rules.specs.Decks.{open_deck};
-ghost use Rattle.deck.specs.Answers.{number_of, refusal_for, check_words};
+ghost use Rattle.deck.specs.Answers.{answer_number, number_of, refusal_for, check_words};
 
-use rows::Rows;
+use opened::Opened;
 
 mod clauses;
 mod header;
 pub mod kinds;
 mod lengths;
+pub mod opened;
 pub mod parts;
-mod rows;
+pub mod rows;
 mod starts;
 mod symbols;
-mod terms;
+pub mod terms;
 
 // The refusals, in the order of their numbers.
 #[derive(Clone, Copy, Debug, PartialEq, Eq)]
@@ -38,7 +39,7 @@ pub enum Refusal {
     Drill,
 }
 
-// The paper's number of an answer: 0 where all is accepted.
+// The paper's number of an answer, which the C calls return: 0 where all is accepted.
 pub fn number(answer: Result<(), Refusal>) -> u32
     ensures { result ≡ number_of answer }
 {
@@ -73,45 +74,25 @@ impl From<Refusal> for u32 {
     }
 }
 
-// Refusals 1 to 5, each over everything before the next.
+// Whether a deck opens: refusals 1 to 5.
 pub fn open(deck: &[u16]) -> Result<(), Refusal>
     ensures { number_of result ≡ checked_number (open_deck deck.now) }
 {
-    if !header::fit(deck) {
-        return Err(Refusal::Header);
-    }
-    let words = parts::symbols(deck);
-    if !symbols::fit(words) {
-        return Err(Refusal::Symbol);
-    }
-    let places = parts::starts(deck);
-    let cells = parts::cells(deck);
-    if !starts::fit(places, cells.len()) {
-        return Err(Refusal::Starts);
-    }
-    let rows = Rows {
-        starts: places,
-        cells,
-    };
-    if !lengths::fit(&rows) {
-        return Err(Refusal::LongClause);
-    }
-    if !clauses::fit(words, &rows) {
-        return Err(Refusal::Clause);
-    }
+    Opened::new(deck)?;
     Ok(())
 }
 
 // Refusals 1 to 5 of the deck, then 6 and 7 of the query; loose variables are looked at by `loose`.
-pub fn check(deck: &[u16], query: &[u16]) -> Result<(), Refusal>
-    ensures { number_of result ≡ checked_number (check_words deck.now query.now) }
+pub fn check<'a>(deck: &'a [u16], query: &[u16]) -> Result<Opened<'a>, Refusal>
+    ensures number { answer_number result ≡ checked_number (check_words deck.now query.now) }
+    ensures words { IfOk result (λ opened. opened.words.now ≡ deck.now) }
 {
-    open(deck)?;
+    let opened = Opened::new(deck)?;
     if 500 < query.len() {
         return Err(Refusal::LongQuery);
     }
-    if !terms::literals(parts::symbols(deck), query) {
+    if !terms::literals(opened.symbols(), query) {
         return Err(Refusal::Query);
     }
-    Ok(())
+    Ok(opened)
 }

@@ -15,5 +15,5 @@ pub fn fit(words: &[u16]) -> bool
 fn is_symbol(word: u16) -> bool
     ensures { result ≡ found (read_symbol word) }
 {
-    word <= 15 || 256 <= word && word <= 271
+    matches!(word, 0..=15 | 256..=271)
 }

@@ -1,69 +1,81 @@
-// Walks over cells: terms, and literals with their terms.
-// Symbols and cells stay two parameters: the symbols are the deck's, the cells a clause's, a query's or a goal's.
-ghost use Rattle.std.specs.Prelude.{◌<◌, ◌≡◌, length};
+// A walk over cells: so many terms, and then literals with their terms, their variables numbered in order of first appearance.
+ghost use Rattle.std.specs.Prelude.{◌+◌, ◌-◌, ◌<◌, ◌≤◌, ◌≡◌, length};
 ghost use Rattle.rules.specs.Cells.{read_literals};
 ghost use Rattle.deck.specs.Answers.{found};
 ghost use Rattle.deck.specs.Kinds.{symbols_of};
-ghost use Rattle.deck.specs.Scan.{Walked, LiteralWalked};
+ghost use Rattle.deck.specs.Scan.{scan, Stepped};
+ghost use Rattle.deck.specs.declared.kinds.Kind.TheVariants.{Positive};
 
 use crate::kinds;
 use crate::kinds::Kind;
 
-// `number` terms from place `at` on, where `next` variables have appeared: where they end and how many variables have appeared by then, or none where the cells are no such terms.
-fn terms(
-    symbols: &[u16],
-    cells: &[u16],
-    at: usize,
-    number: usize,
-    next: usize,
-) -> Option<(usize, usize)>
-    ensures { Walked (symbols_of symbols.now) cells.now at number next result }
+// The cell at place `at` of `len`, where `todo` terms are to come and `next` variables have appeared: the two numbers after it, or none
+// where no such cell may stand.
+fn step(kind: Kind, len: usize, at: usize, todo: usize, next: usize) -> Option<(usize, usize)>
+    requires { (at < len) × (todo ≤ len - at) × (next ≤ at) }
+    ensures { Stepped (len - at - 1) kind todo next result }
 {
-    if number == 0 {
-        return Some((at, next));
-    }
-    if cells.len() <= at {
-        return None;
-    }
-    match kinds::read(symbols, cells[at]) {
+    let room = len - at - 1;
+    match kind {
         Kind::Variable(v) => {
+            if todo == 0 {
+                return None;
+            }
             if next < v {
                 return None;
             }
-            terms(symbols, cells, at + 1, number - 1, next.max(v + 1))
+            Some((todo - 1, next.max(v + 1)))
         }
-        Kind::Function(arity) => {
-            let (end, n) = terms(symbols, cells, at + 1, arity, next)?;
-            terms(symbols, cells, end, number - 1, n)
+        Kind::Function(k) => {
+            if todo == 0 {
+                return None;
+            }
+            if room - (todo - 1) < k {
+                return None;
+            }
+            Some((k + (todo - 1), next))
         }
-        _ => None,
+        Kind::Positive(k) | Kind::Negative(k) => predicate(k, room, todo, next),
+        Kind::Invalid => None,
     }
 }
 
-// The literal at place `at`.
-fn literal(symbols: &[u16], cells: &[u16], at: usize, next: usize) -> Option<(usize, usize)>
-    requires { at < length cells.now }
-    ensures { LiteralWalked (symbols_of symbols.now) cells.now at next result }
+// A predicate's cell, negated or not: a literal starts where no term is to come.
+fn predicate(arity: usize, room: usize, todo: usize, next: usize) -> Option<(usize, usize)>
+    ensures { Stepped room (Positive arity) todo next result }
 {
-    let (Kind::Positive(arity) | Kind::Negative(arity)) = kinds::read(symbols, cells[at]) else {
+    if 0 < todo {
         return None;
-    };
-    terms(symbols, cells, at + 1, arity, next)
+    }
+    if room < arity {
+        return None;
+    }
+    Some((arity, next))
 }
 
-// Literals whose variables are numbered in order of first appearance.
-pub fn literals(symbols: &[u16], cells: &[u16]) -> bool
-    ensures { result ≡ found (read_literals (symbols_of symbols.now) cells.now) }
+// So many terms and then literals. Symbols and cells stay two: the cells are another row at each call, and nothing is known of the pair.
+pub fn row(symbols: &[u16], cells: &[u16], terms: usize) -> bool
+    ensures { result ≡ scan (symbols_of symbols.now) cells.now terms 0 }
 {
-    let mut at = 0;
+    if cells.len() < terms {
+        return false;
+    }
+    let mut todo = terms;
     let mut next = 0;
-    // No `for`: the place moves by a literal's length.
-    while at < cells.len() {
-        let Some((end, n)) = literal(symbols, cells, at, next) else {
+    for (at, cell) in cells.iter().enumerate() {
+        let kind = kinds::read(symbols, *cell);
+        let Some((t, n)) = step(kind, cells.len(), at, todo, next) else {
             return false;
         };
-        at = end;
+        todo = t;
         next = n;
     }
     true
+}
+
+// Literals alone.
+pub fn literals(symbols: &[u16], cells: &[u16]) -> bool
+    ensures { result ≡ found (read_literals (symbols_of symbols.now) cells.now) }
+{
+    row(symbols, cells, 0)
 }

@@ -1,10 +1,11 @@
 // What cells stand for, and an opened deck read through its accessors.
-ghost use Rattle.std.specs.Prelude.{◌≡◌, ◌<◌, true, length};
-ghost use Rattle.rules.specs.Decks.{header_fits, clause_words, term_cells, starts_fit};
+ghost use Rattle.std.specs.Prelude.{◌<◌, length};
+ghost use Rattle.rules.specs.Decks.{clause_words};
 
 use crate::show;
+use deck::kinds;
 use deck::kinds::Kind;
-use deck::{kinds, parts};
+use deck::opened::Opened;
 use std::io;
 
 fn kind(rt: &impl Print, symbols: &[u16], cell: u16) -> io::Result<()> {
@@ -38,22 +39,17 @@ pub fn kinds(rt: &impl Print) -> io::Result<()> {
 }
 
 // Where clause i starts and ends, and its number of cells.
-fn clause(rt: &impl Print, deck: &[u16], i: usize) -> io::Result<()>
-    requires header { header_fits deck.now ≡ true }
-    requires in_order { starts_fit (length (term_cells deck.now)) (clause_words deck.now) ≡ true }
-    requires i_in_bounds { i < length (clause_words deck.now) }
+fn clause(rt: &impl Print, deck: &Opened, i: usize) -> io::Result<()>
+    requires { i < length (clause_words deck.now.words.now) }
 {
-    show::line(rt, "starts", parts::clause_start(deck, i))?;
-    show::line(rt, "ends", parts::clause_end(deck, i))?;
-    show::line(rt, "cells", parts::clause(deck, i).len())
+    let parts = deck.parts();
+    show::line(rt, "starts", parts.clause_start(i))?;
+    show::line(rt, "ends", parts.clause_end(i))?;
+    show::line(rt, "cells", deck.clause(i).len())
 }
 
-fn each_clause(rt: &impl Print, deck: &[u16]) -> io::Result<()>
-    requires header { header_fits deck.now ≡ true }
-    requires in_order { starts_fit (length (term_cells deck.now)) (clause_words deck.now) ≡ true }
-{
-    let count = parts::clause_count(deck);
-    for i in 0..count {
+fn each_clause(rt: &impl Print, deck: &Opened) -> io::Result<()> {
+    for i in 0..deck.clause_count() {
         clause(rt, deck, i)?;
     }
     Ok(())
@@ -61,10 +57,10 @@ fn each_clause(rt: &impl Print, deck: &[u16]) -> io::Result<()>
 
 // What an accepted deck's clauses are, and its third symbol.
 pub fn clauses(rt: &impl Print, deck: &[u16]) -> io::Result<()> {
-    match deck::open(deck) {
-        Ok(()) => {
-            each_clause(rt, deck)?;
-            kind(rt, parts::symbols(deck), 2)
+    match Opened::new(deck) {
+        Ok(opened) => {
+            each_clause(rt, &opened)?;
+            kind(rt, opened.symbols(), 2)
         }
         Err(_) => show::line(rt, "clauses", 0),
     }

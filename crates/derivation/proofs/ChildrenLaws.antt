@@ -11,18 +11,19 @@ use lib.Seq.{length-sets, drop-drop, length-take-le}
 use lib.Dec.{ltb}
 use borrow.Author.Tests.{eq-eqb, ne_eqb, lt-ltb, le-ltb}
 use Rattle.rules.specs.Terms.{Terms}
-use Rattle.rules.specs.Syntax.{Literal, Clause, Deck, Goal, top_goal}
-use Rattle.rules.specs.Decks.{symbol_words}
+use Rattle.rules.specs.Syntax.{Symbol, Literal, Clause, Deck, Goal, top_goal}
 use Rattle.rules.specs.Goals.{pending, marked, unmarked, goal_words, write_goal, write_goals}
 use Rattle.rules.specs.Resolution.{clauses_about, resolvent, keep_some, collect, resolvents, any_oversized, matchings}
 use Rattle.rules.proofs.GoalLaws.{goal-length, goals-append, unmarked-append, words_of-append}
 use Rattle.std.proofs.lemmas.List.{length-take}
 use Rattle.words.proofs.StoreLaws.{take-sets-before, take-sets}
 use Rattle.resolvents.specs.Selecting.{GoalCells}
-use Rattle.resolvents.specs.Deriving.{equations_of, IsResolvent}
+use Rattle.resolvents.specs.Deriving.{Calls, equations_of, IsResolvent}
+use Rattle.resolvents.specs.declared.resolve.Call.{Call}
 use Rattle.resolvents.specs.declared.resolve.Resolved.{Resolved}
 use Rattle.resolvents.specs.declared.resolve.Resolved.TheVariants.{Nothing, Child, Oversized}
 use Rattle.clauses.specs.Clauses.{ClauseAt, place_in, NextAbout}
+use Rattle.derivation.specs.declared.Attempt.{Attempt}
 use Rattle.derivation.specs.Derives.{Tries, sum_of, Fitting, Placed, WritesTo, Writes}
 use Rattle.std.proofs.Common.{Option as Maybe, Some, None}
 
@@ -85,21 +86,22 @@ sum_by d g p ts n e = ap (λ m. matchings m ts (clauses_about p d.clauses)) (sym
 pub kept-inside : (cells cells₀ : List ℕ) (size : ℕ) → take size cells ≡ take size cells₀ → size ≤ length cells₀ → size ≤ length cells
 kept-inside cells cells₀ size k l = omega (arith, ap length k, length-take-le size cells₀ l, length-take size cells)
 
-pub tries-kept :
-    {ws cells₀ : List ℕ} {size answers s e n : ℕ} {d : Deck} {g : Goal} {before : List Literal} {p : ℕ} {ts : Terms} {after : List Literal} (cells : List ℕ)
-    → take size cells ≡ take size cells₀ → Tries ws cells₀ size answers s e n d g before p ts after → Tries ws cells size answers s e n d g before p ts after
-tries-kept {ws} {cells₀} {size} {answers = answers} {d = d} {g = g} cells k t =
-    let c = t.calls in
+pub calls-kept :
+    {ar cells₀ : List ℕ} {call : Call} {n : ℕ} {S : List Symbol} {g : Goal} {before : List Literal} {p : ℕ} {ts : Terms} {after : List Literal} (cells : List ℕ)
+    → take call.len cells ≡ take call.len cells₀ → Calls ar cells₀ call n S g before p ts after → Calls ar cells call n S g before p ts after
+calls-kept {ar} {cells₀} {call} {S = S} {g = g} cells k c =
     record {
-      opens = t.opens;
-      calls = record {
-        inside = kept-inside cells cells₀ size k c.inside;
-        goal = subst (λ (cs : List ℕ). GoalCells (symbol_words ws) cs answers d.symbols g) (sym k) c.goal;
-        literals = c.literals;
-        span = c.span;
-        fresh = c.fresh;
-      };
+      inside = kept-inside cells cells₀ call.len k c.inside;
+      goal = subst (λ (cs : List ℕ). GoalCells ar cs call.answers S g) (sym k) c.goal;
+      literals = c.literals;
+      span = c.span;
+      fresh = c.fresh;
     }
+
+pub tries-kept :
+    {ws cells₀ : List ℕ} {a : Attempt} {d : Deck} {g : Goal} {before : List Literal} {p : ℕ} {ts : Terms} {after : List Literal} (cells : List ℕ)
+    → take a.call.len cells ≡ take a.call.len cells₀ → Tries ws cells₀ a d g before p ts after → Tries ws cells a d g before p ts after
+tries-kept cells k t = record { opens = t.opens; calls = calls-kept cells k t.calls; first = t.first }
 
 -- Oversized goals in one list and then another.
 or_assoc : (a b c : Bool) → (a || (b || c)) ≡ ((a || b) || c)

@@ -8,6 +8,7 @@ use lib.Seq.{sets, drop-drop, take_at, take-take, length-take-le}
 use borrow.Rule.Slice.PartMut.{put_mid}
 use Rattle.rules.specs.Terms.{Terms}
 use Rattle.rules.specs.Syntax.{Literal, Deck, Goal, top_goal}
+use Rattle.rules.specs.Decks.{symbol_words}
 use Rattle.rules.specs.Goals.{pending, mark_number, marked, unmarked, goal_words, write_goal, write_goals}
 use Rattle.rules.specs.Resolution.{positive, resolvents, selected_cost}
 use Rattle.rules.specs.WellFormed.{WfGoal}
@@ -16,11 +17,13 @@ use Rattle.rules.proofs.GoalLaws.{goal-words, goal-length, goals-length, unmarke
 use Rattle.rules.proofs.DeckLaws.{opened-written}
 use Rattle.rules.proofs.FormedLaws.{resolvents-wf}
 use Rattle.words.proofs.StoreLaws.{rev, length-rev, take-sets, mirror-length, children-on}
+use Rattle.resolvents.specs.Deriving.{Calls, leading_symbol}
+use Rattle.derivation.proofs.ChildrenLaws.{calls-kept}
 use Rattle.derivation.specs.Derives.{Tries, sum_of, Deriving, DerivesTo, Derives, WritesTo, Writes}
 use Rattle.derivation.specs.declared.Derived.{Derived}
 use Rattle.goals.specs.Store.{Holding}
 use Rattle.report.specs.declared.Stop.TheVariants as stops
-use Rattle.std.proofs.Common.{Some, None, Ok, Err}
+use Rattle.std.proofs.Common.{Option, Some, None, Ok, Err}
 
 goals-one : (g : Goal) (gs : List Goal) → write_goals (unmarked (g ∷ gs)) ≡ write_goal (marked pending g) ++ write_goals (unmarked gs)
 unfolding write_goals
@@ -68,10 +71,15 @@ module _
         room = x.calls.inside;
       }
 
-  pub tries : (n : ℕ) → n ≡ top_goal g → Tries ws cells size answers s e n d g before p ts after
-  tries n q =
+  pub tries : (n : ℕ) (first : Option ℕ) → n ≡ top_goal g → first ≡ leading_symbol ts
+      → Tries ws cells (record { call = record { len = size; answers = answers; s = s; e = e }; n = n; first = first }) d g before p ts after
+  tries n first q r =
       let c = x.calls in
-      record { opens = x.opens; calls = record { inside = c.inside; goal = c.goal; literals = c.literals; span = c.span; fresh = q } }
+      record { opens = x.opens; calls = record { inside = c.inside; goal = c.goal; literals = c.literals; span = c.span; fresh = q }; first = r }
+
+  -- The goal's cells alone.
+  pub row-calls : (ar row : List ℕ) → ar ≡ symbol_words ws → row ≡ take size cells → Calls ar row (record { len = size; answers = answers; s = s; e = e }) (top_goal g) d.symbols g before p ts after
+  row-calls ar row q r = rw (q, r) (calls-kept (take size cells) (take-take size size cells (omega arith)) x.calls)
 
   -- The first goal's words, and those of the others.
   first-words : write_goal (marked pending g) ≡ (size + 2) ∷ answers ∷ take size cells

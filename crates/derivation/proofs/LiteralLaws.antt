@@ -11,19 +11,23 @@ use Rattle.rules.specs.Cells.{write_terms, write_literals}
 use Rattle.rules.specs.Goals.{goal_cells}
 use Rattle.rules.proofs.CellLaws.{terms-length, literals-length, write-append, write_literals-append}
 use Rattle.resolvents.specs.Deriving.{Calls}
+use Rattle.resolvents.specs.declared.resolve.Call.{Call}
 use Rattle.rules.specs.WellFormed.{WfLiteral, WfLiterals}
 use Rattle.rules.proofs.ListLaws.{all_split}
 use Rattle.rules.proofs.CellLaws.{positive-below}
 use Rattle.rules.proofs.DeckLaws.{opened-written}
 use Rattle.rules.specs.Syntax.{Deck}
+use Rattle.derivation.specs.declared.Attempt.{Attempt}
 use Rattle.derivation.specs.Derives.{Tries}
 
 -- The cell at which the selected literal starts is its predicate.
 pub literal-cell :
-    {ar cells : List ℕ} {size answers s e n : ℕ} {S : List Symbol} {g : Goal} {before : List Literal} {p : ℕ} {ts : Terms} {after : List Literal}
-    → Calls ar cells size answers s e n S g before p ts after → (s < size) × (get_or cells s 0 ≡ p)
+    {ar cells : List ℕ} {call : Call} {n : ℕ} {S : List Symbol} {g : Goal} {before : List Literal} {p : ℕ} {ts : Terms} {after : List Literal}
+    → Calls ar cells call n S g before p ts after → (call.s < call.len) × (get_or cells call.s 0 ≡ p)
 unfolding goal_cells
-literal-cell {cells = cells} {size = size} {s = s} {g = g} {before = before} {p = p} {ts = ts} {after = after} r =
+literal-cell {cells = cells} {call = call} {g = g} {before = before} {p = p} {ts = ts} {after = after} r =
+    let s = call.s in
+    let size = call.len in
     let front = write_terms g.answers [] ++ write_literals before in
     let rest = write_terms ts (write_literals after) in
     let whole : take size cells ≡ front ++ (p ∷ rest) =
@@ -35,8 +39,8 @@ literal-cell {cells = cells} {size = size} {s = s} {g = g} {before = before} {p 
 
 -- It is one of the deck's symbols.
 pub literal-below :
-    {ws cells : List ℕ} {size answers s e n : ℕ} {d : Deck} {g : Goal} {before : List Literal} {p : ℕ} {ts : Terms} {after : List Literal}
-    → Tries ws cells size answers s e n d g before p ts after → p < 4096
+    {ws cells : List ℕ} {a : Attempt} {d : Deck} {g : Goal} {before : List Literal} {p : ℕ} {ts : Terms} {after : List Literal}
+    → Tries ws cells a d g before p ts after → p < 4096
 literal-below {ws} {d = d} {before = before} {p} {ts} {after} t =
     let w = subst (WfLiterals d.symbols) t.calls.literals t.calls.goal.well_formed.literals in
     let l = (all_split (WfLiteral d.symbols) before (pos p ts ∷ after) w).1.0.0 in

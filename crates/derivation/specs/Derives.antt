@@ -7,34 +7,37 @@ use Rattle.rules.specs.Refusals.{accepted}
 use Rattle.rules.specs.Decks.{open_deck, symbol_words}
 use Rattle.rules.specs.Goals.{unmarked, goal_words, words_of, write_goals}
 use Rattle.rules.specs.Resolution.{clauses_about, any_oversized, matchings}
-use Rattle.resolvents.specs.Deriving.{Calls}
+use Rattle.resolvents.specs.Deriving.{Calls, leading_symbol}
 use Rattle.resolvents.specs.declared.resolve.Resolved as resolved
 use Rattle.resolvents.specs.declared.resolve.Resolved.TheVariants as gives
 use Rattle.goals.specs.Store.{Holding}
 use Rattle.clauses.specs.Clauses.{ClauseAt}
 use Rattle.report.specs.declared.Stop.{Stop}
 use Rattle.report.specs.declared.Stop.TheVariants as stops
+use Rattle.derivation.specs.declared.Attempt.{Attempt}
 use Rattle.derivation.specs.declared.Derived.{Derived}
 
--- The deck opens, and the first `size` cells are those of the goal g, in which p(ts), with `before` and `after` around it, stands from s up to e.
-pub record Tries (deck_words cells : List ℕ) (size answers s e n : ℕ) (d : Deck) (g : Goal) (before : List Literal) (p : ℕ) (ts : Terms) (after : List Literal) : Type 0 where
+-- The deck opens, and the attempt is of a call whose goal g stands first in the cells, in which p(ts) is selected, with `before` and `after`
+-- around it.
+pub record Tries (deck_words cells : List ℕ) (a : Attempt) (d : Deck) (g : Goal) (before : List Literal) (p : ℕ) (ts : Terms) (after : List Literal) : Type 0 where
   pub opens : open_deck deck_words ≡ accepted d
-  pub calls : Calls (symbol_words deck_words) cells size answers s e n d.symbols g before p ts after
+  pub calls : Calls (symbol_words deck_words) cells a.call a.n d.symbols g before p ts after
+  pub first : a.first ≡ leading_symbol ts
 
-pub record SomeTries (deck_words cells : List ℕ) (size answers s e n : ℕ) : Type 0 where
+pub record SomeTries (deck_words cells : List ℕ) (a : Attempt) : Type 0 where
   pub deck : Deck
   pub goal : Goal
   pub before : List Literal
   pub predicate : ℕ
   pub terms : Terms
   pub after : List Literal
-  pub is : Tries deck_words cells size answers s e n deck goal before predicate terms after
+  pub is : Tries deck_words cells a deck goal before predicate terms after
 
 -- Clause i is about the literal's predicate.
-abbrev pub AboutCall : List ℕ → List ℕ → ℕ → ℕ → ℕ → ℕ → ℕ → ℕ → Type 0
-AboutCall deck_words cells size answers s e n i =
+abbrev pub AboutCall : List ℕ → List ℕ → Attempt → ℕ → Type 0
+AboutCall deck_words cells a i =
     (d : Deck) (g : Goal) (before : List Literal) (p : ℕ) (ts : Terms) (after : List Literal) (c : Clause)
-    → Tries deck_words cells size answers s e n d g before p ts after → ClauseAt d.clauses i c → c.predicate ≡ p
+    → Tries deck_words cells a d g before p ts after → ClauseAt d.clauses i c → c.predicate ≡ p
 
 -- The equations that the clauses about the literal's predicate take.
 abbrev pub sum_of : Deck → Goal → ℕ → Terms → ℕ
@@ -74,7 +77,7 @@ pub record Deriving (deck_words store cells : List ℕ) (held size answers s e :
   pub opens : open_deck deck_words ≡ accepted d
   pub holding : Holding d.symbols store held (g ∷ gs)
   pub sized : goal_words g ≡ size + 2
-  pub calls : Calls (symbol_words deck_words) cells size answers s e (top_goal g) d.symbols g before p ts after
+  pub calls : Calls (symbol_words deck_words) cells (record { len = size; answers = answers; s = s; e = e }) (top_goal g) d.symbols g before p ts after
 
 pub record SomeDeriving (deck_words store cells : List ℕ) (held size answers s e : ℕ) : Type 0 where
   pub deck : Deck

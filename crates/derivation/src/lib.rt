@@ -1,7 +1,9 @@
-// The step on a selected positive literal: the derived goals take the goal's place in the store.
+// The step on a selected positive literal: the derived goals take the goal's place in the store. Clauses and workspace stay two parameters: of
+// both behind one `&mut` each contract would have to say that the clauses are the same after.
 #![tactic(auto)]
 
 ghost use Rattle.std.specs.Prelude.{◌≡◌, ℕ, ◌≤◌, ◌<◌, List, length, take};
+ghost use Rattle.std.proofs.Math.Option.{none};
 ghost use Rattle.rules.specs.Terms.{Terms};
 ghost use Rattle.rules.specs.Syntax.{Literal, Clause, Deck, Goal};
 ghost use Rattle.rules.specs.Decks.{clause_words};
@@ -14,7 +16,7 @@ use clauses::Clauses;
 use goals::restore;
 use report::Stop;
 use resolvents::fresh::variables;
-use resolvents::resolve::{Call, Resolved, resolve_clause};
+use resolvents::resolve::{Call, Resolved, begins_otherwise, resolve_clause};
 use resolvents::workspace::Workspace;
 
 // After a step, the words that goals hold, or none where a derived goal is oversized; and what is left of the budget.
@@ -24,8 +26,18 @@ pub struct Derived {
     pub left: u32,
 }
 
+// A call, and what is worked out of it once for all clauses: the least number above its goal's variables, and the symbol that the literal's
+// first argument begins with.
+#[derive(Clone, Copy)]
+struct Attempt {
+    call: Call,
+    n: usize,
+    first: Option<u16>,
+}
+
 // The goals that the call gives take the place of the goal at the end of the words held, if the step's cost is left of the budget and
-// there is room for all of them.
+// there is room for all of them. `Deriving` takes the call's numbers: levels' proofs state it of two
+// places, before there is a call.
 pub fn derive(
     clauses: &Clauses<'_>,
     store: &mut [u16],
@@ -34,13 +46,17 @@ pub fn derive(
     left: u32,
     work: &mut Workspace,
 ) -> Result<Derived, Stop>
-    requires some_deriving { SomeDeriving clauses.now.deck.now store.old work.old.cells.now held call.len call.answers call.s call.e }
+    requires some_deriving { SomeDeriving clauses.now.deck.words.now store.old work.old.cells.now held call.len call.answers call.s call.e }
     requires left { 0 < left }
-    ensures derives { (d : Deck) (g : Goal) (gs : List Goal) (before : List Literal) (p : ℕ) (ts : Terms) (after : List Literal) → Deriving clauses.now.deck.now store.old work.old.cells.now held call.len call.answers call.s call.e d g gs before p ts after → Derives d.symbols store.old held gs (resolvents d.clauses g before p ts after) (selected_cost d.clauses g (positive before p ts after)) left store.new result }
+    ensures derives { (d : Deck) (g : Goal) (gs : List Goal) (before : List Literal) (p : ℕ) (ts : Terms) (after : List Literal) → Deriving clauses.now.deck.words.now store.old work.old.cells.now held call.len call.answers call.s call.e d g gs before p ts after → Derives d.symbols store.old held gs (resolvents d.clauses g before p ts after) (selected_cost d.clauses g (positive before p ts after)) left store.new result }
 {
     let base = held - 2 - call.len;
-    let n = variables(work.goal(call.len));
-    let Some(derived) = put_children(clauses, store, base, call, n, left - 1, work) else {
+    let cells = work.goal(call.len);
+    let n = variables(cells);
+    let first = call.first_symbol(clauses.symbols(), cells);
+    let attempt = Attempt { call, n, first };
+    // Restored in each way out: a closure for it would hold the store, which is read and written between.
+    let Some(derived) = put_children(clauses, store, base, attempt, left - 1, work) else {
         restore(store, held, work.goal(call.len), call.answers);
         return Err(Stop::Budget);
     };
@@ -62,22 +78,19 @@ fn put_children(
     clauses: &Clauses<'_>,
     store: &mut [u16],
     base: usize,
-    call: Call,
-    n: usize,
+    attempt: Attempt,
     left: u32,
     work: &mut Workspace,
 ) -> Option<Derived>
-    requires some_tries { SomeTries clauses.now.deck.now work.old.cells.now call.len call.answers call.s call.e n }
+    requires some_tries { SomeTries clauses.now.deck.words.now work.old.cells.now attempt }
     requires base { base ≤ length store.old }
-    ensures writes { (d : Deck) (g : Goal) (before : List Literal) (p : ℕ) (ts : Terms) (after : List Literal) → Tries clauses.now.deck.now work.old.cells.now call.len call.answers call.s call.e n d g before p ts after → Writes store.old base (resolvents d.clauses g before p ts after) (sum_of d g p ts) left store.new result }
-    ensures cells_unchanged { take call.len work.new.cells.now ≡ take call.len work.old.cells.now }
+    ensures writes { (d : Deck) (g : Goal) (before : List Literal) (p : ℕ) (ts : Terms) (after : List Literal) → Tries clauses.now.deck.words.now work.old.cells.now attempt d g before p ts after → Writes store.old base (resolvents d.clauses g before p ts after) (sum_of d g p ts) left store.new result }
+    ensures cells_unchanged { take attempt.call.len work.new.cells.now ≡ take attempt.call.len work.old.cells.now }
 {
-    // A copy, since behind the reference each clause reads it anew: a step over a list of facts takes a tenth longer.
-    let clauses = *clauses;
     let mut held = Some(base);
     let mut rest = left;
-    for i in clauses.about(usize::from(work.cells[call.s])) {
-        let (given, l) = try_clause(&clauses, i, call, n, rest, work)?;
+    for i in clauses.about(usize::from(work.cells[attempt.call.s])) {
+        let (given, l) = try_clause(clauses, i, attempt, rest, work)?;
         held = put_child(store, &work.draft.child, given, held);
         rest = l;
     }
@@ -114,17 +127,28 @@ fn put_child(
 fn try_clause(
     clauses: &Clauses<'_>,
     i: usize,
-    call: Call,
-    n: usize,
+    attempt: Attempt,
     left: u32,
     work: &mut Workspace,
 ) -> Option<(Resolved, u32)>
-    requires some_tries { SomeTries clauses.now.deck.now work.old.cells.now call.len call.answers call.s call.e n }
-    requires about_call { AboutCall clauses.now.deck.now work.old.cells.now call.len call.answers call.s call.e n i }
-    requires i_in_bounds { i < length (clause_words clauses.now.deck.now) }
-    ensures attempt { (d : Deck) (g : Goal) (before : List Literal) (p : ℕ) (ts : Terms) (after : List Literal) (c : Clause) → Tries clauses.now.deck.now work.old.cells.now call.len call.answers call.s call.e n d g before p ts after → ClauseAt d.clauses i c → IsAttempt (resolvent n g.answers before ts after c) (equations_of n ts c) left work.new.draft.child result }
-    ensures cells_unchanged { take call.len work.new.cells.now ≡ take call.len work.old.cells.now }
+    requires some_tries { SomeTries clauses.now.deck.words.now work.old.cells.now attempt }
+    requires about_call { AboutCall clauses.now.deck.words.now work.old.cells.now attempt i }
+    requires i_in_bounds { i < length (clause_words clauses.now.deck.words.now) }
+    ensures attempt { (d : Deck) (g : Goal) (before : List Literal) (p : ℕ) (ts : Terms) (after : List Literal) (c : Clause) → Tries clauses.now.deck.words.now work.old.cells.now attempt d g before p ts after → ClauseAt d.clauses i c → IsAttempt (resolvent attempt.n g.answers before ts after c) (equations_of attempt.n ts c) left work.new.draft.child result }
+    ensures cells_unchanged { take attempt.call.len work.new.cells.now ≡ take attempt.call.len work.old.cells.now }
 {
-    let symbols = clauses.symbols();
-    resolve_clause(symbols, work, call, n, clauses.cells(i), left)
+    let clause = clauses.cells(i);
+    if begins_otherwise(attempt.first, clause) {
+        return fails_at_once(left);
+    }
+    let Attempt { call, n, .. } = attempt;
+    resolve_clause(clauses.symbols(), work, call, n, clause, left)
+}
+
+// A unification that fails at its first equation.
+fn fails_at_once(left: u32) -> Option<(Resolved, u32)>
+    ensures { (child : List ℕ) → IsAttempt none 1 left child result }
+{
+    let rest = left.checked_sub(1)?;
+    Some((Resolved::Nothing, rest))
 }

@@ -1,4 +1,5 @@
 pub mod FillLaws
+pub mod TableLaws
 pub mod WordLaws
 pub mod SuccessorLaws
 pub mod RestLaws

@@ -1,5 +1,5 @@
--- Symbol words and the table's words: what they say of fillings.
-use Prim.Native.Nat.{ℕ, zero, suc, ◌+◌, ◌-◌, ◌*◌, ◌/◌, ◌%◌, ◌≤◌, ◌<◌}
+-- Symbol words and the table's rows: what they say of fillings.
+use Prim.Native.Nat.{ℕ, zero, suc, ◌+◌, ◌-◌, ◌≤◌, ◌<◌}
 use mathlib.Core.Path.{◌≡◌, refl, ap, ap₂, sym, ◌∙◌}
 use mathlib.Core.Bool.{Bool, true, false}
 use mathlib.Core.Option.{Option, none, some}
@@ -53,20 +53,10 @@ module _ (ws : List ℕ) (m k f : ℕ) (h : f < symbol_count ws) (p : is_predica
   unfolding nonempty
   starts-over l = starts-functor ∙ ap nonempty (fillings-none (symbols_of ws) m (word_arity ws f + k) l)
 
-pub starts-table :
-    (ws : List ℕ) (table : List Bool) (m k f : ℕ) → f < symbol_count ws → is_predicate ws f ≡ false → Known (symbols_of ws) table (8 * m + 8) → m < 8 → word_arity ws f + k ≤ m
-    → get_or table (8 * m + word_arity ws f + k) false ≡ starts_with (symbols_of ws) m k (get_elem? (symbols_of ws) f)
-starts-table ws table m k f i p t h l =
-    let S = symbols_of ws in
-    let w = word_arity ws f in
-    let j = 8 * m + w + k in
-    let row : j / 8 ≡ m = omega arith in
-    let column : j % 8 ≡ w + k = omega arith in
-    t.at j (omega arith) ∙ ap₂ (λ x y. nonempty (fillings S x y)) row column ∙ sym (starts-functor ws m k f i p)
-
--- The table up to a place.
-pub known-less : (S : List Symbol) (table : List Bool) (n k : ℕ) → Known S table n → k ≤ n → Known S table k
-known-less S table n k t h = record { size = t.size; at = λ j l. t.at j (omega arith) }
+pub starts-row :
+    (ws : List ℕ) (row : List Bool) (m k f : ℕ) → f < symbol_count ws → is_predicate ws f ≡ false → Known (symbols_of ws) m row → m < 8 → word_arity ws f + k ≤ m
+    → get_or row (word_arity ws f + k) false ≡ starts_with (symbols_of ws) m k (get_elem? (symbols_of ws) f)
+starts-row ws row m k f i p t h l = t.at (word_arity ws f + k) (omega arith) ∙ sym (starts-functor ws m k f i p)
 
 -- An entry of the table.
 pub entry-sought : (S : List Symbol) (m k : ℕ) → 1 ≤ m → 1 ≤ k → (r : answer.Option ℕ) → Sought S (m - 1) (k - 1) 0 r → is_some r ≡ nonempty (fillings S m k)

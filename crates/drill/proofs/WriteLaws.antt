@@ -7,10 +7,8 @@ use lib.ListN.{length, length-drop, take, drop, length-append, take-append-drop}
 use lib.Seq.{length-take-le, take_at, drop_at, drop-drop}
 use borrow.Author.Tests.{le-leb, lt-leb}
 use borrow.Rule.Slice.PartMut.{put_mid}
-use Rattle.rules.specs.Syntax.{Symbol}
 use Rattle.rules.specs.Refusals.{accepted}
 use Rattle.rules.specs.Drill.{fitting, joined, list_after}
-use Rattle.drill.specs.Successors.{rest_after, Holds, BeginsHere}
 
 -- As many as fit.
 fits_one : (room : ℕ) (t : List ℕ) (ts : List (List ℕ)) → length t ≤ room → fitting room (t ∷ ts) ≡ t ∷ fitting (room - length t) ts
@@ -21,35 +19,28 @@ fits-none : (room : ℕ) (t : List ℕ) (ts : List (List ℕ)) → room < length
 unfolding fitting
 fits-none room t ts h = rw (lt-leb (length t) room h, fitting)
 
--- The first `at` words of `out` hold the first `count` terms of `all`, the last of which the cells hold too.
-pub record Writing (S : List Symbol) (n : ℕ) (all : List (List ℕ)) (before cells : List ℕ) (size : ℕ) (out : List ℕ) (at count : ℕ) : Type 0 where
-  pub holds : Holds S n cells size
+-- The first `at` words of `out` hold the first `count` terms of `all`, and `left` are those after them.
+pub record Writing (all : List (List ℕ)) (before out : List ℕ) (at count : ℕ) (left : List (List ℕ)) : Type 0 where
   pub inside : at ≤ length before
   pub few : count ≤ at
   pub same : length out ≡ length before
   pub untouched : drop at out ≡ drop at before
-  pub words : take at out ++ joined (fitting (length before - at) (rest_after S n (take size cells))) ≡ joined (fitting (length before) all)
-  pub number : count + length (fitting (length before - at) (rest_after S n (take size cells))) ≡ length (fitting (length before) all)
+  pub words : take at out ++ joined (fitting (length before - at) left) ≡ joined (fitting (length before) all)
+  pub number : count + length (fitting (length before - at) left) ≡ length (fitting (length before) all)
 
 -- What is left when no more are written.
 pub record Wrote (all : List (List ℕ)) (before out : List ℕ) (count : ℕ) : Type 0 where
   pub number : count ≡ length (fitting (length before) all)
   pub words : out ≡ list_after (accepted (fitting (length before) all)) before
 
--- One turn, in which the cells come to hold the next term, if there is one.
+-- One turn, in which the next term is given, if there is one.
 module _
-    (S : List Symbol)
-    (n : ℕ)
     (all : List (List ℕ))
-    (before cells : List ℕ)
-    (size : ℕ)
-    (out : List ℕ)
+    (before out : List ℕ)
     (at count : ℕ)
-    (w : Writing S n all before cells size out at count)
+    (left : List (List ℕ))
+    (w : Writing all before out at count left)
   where
-    abbrev left : List (List ℕ)
-    left = rest_after S n (take size cells)
-
     ended : fitting (length before - at) left ≡ [] → Wrote all before out count
     unfolding joined list_after
     ended e =
@@ -64,55 +55,48 @@ module _
     unfolding fitting
     writing-last e = ended (ap (fitting (length before - at)) e)
 
-    module _ (cells' : List ℕ) (size' : ℕ) (b : BeginsHere S n left cells' size') (h : n ≤ 8) where
-      abbrev x : List ℕ
-      x = take size' cells'
+    module _ (x : List ℕ) (others : List (List ℕ)) (b : left ≡ x ∷ others) (size : ℕ) (some : 1 ≤ size) (taken : length x ≡ size) where
+      pub writing-full : length out - at < size → Wrote all before out count
+      writing-full f = ended (ap (fitting (length before - at)) b ∙ fits-none (length before - at) x others (omega (arith, taken, w.same)))
 
-      taken : length x ≡ size'
-      taken = length-take-le size' cells' (omega (arith, b.holds.room, b.holds.short))
-
-      pub writing-full : length out - at < size' → Wrote all before out count
-      writing-full f = ended (ap (fitting (length before - at)) (b.begins) ∙ fits-none (length before - at) x (rest_after S n x) (omega (arith, taken, w.same)))
-
-      module _ (f : size' ≤ length out - at) where
+      module _ (f : size ≤ length out - at) where
         abbrev next : List (List ℕ)
-        next = fitting (length before - (at + size')) (rest_after S n x)
+        next = fitting (length before - (at + size)) others
 
         split : fitting (length before - at) left ≡ x ∷ next
         split =
-            let room : length before - at - length x ≡ length before - (at + size') = omega (arith, taken) in
-            ap (fitting (length before - at)) (b.begins)
-            ∙ fits_one (length before - at) x (rest_after S n x) (omega (arith, taken, w.same))
-            ∙ ap (λ j. x ∷ fitting j (rest_after S n x)) room
+            let room : length before - at - length x ≡ length before - (at + size) = omega (arith, taken) in
+            ap (fitting (length before - at)) (b)
+            ∙ fits_one (length before - at) x others (omega (arith, taken, w.same))
+            ∙ ap (λ j. x ∷ fitting j others) room
 
         abbrev placed : List ℕ
-        placed = put_mid at (at + size' - at) out x
+        placed = put_mid at (at + size - at) out x
 
-        placed-parts : placed ≡ (take at out ++ x) ++ drop (at + size') out
+        placed-parts : placed ≡ (take at out ++ x) ++ drop (at + size) out
         placed-parts =
-            let end : at + (at + size' - at) ≡ at + size' = omega arith in
-            ap (λ t. take at out ++ (x ++ t)) (drop-drop (at + size' - at) at out ∙ ap (λ j. drop j out) end)
-            ∙ sym (append_assoc (take at out) x (drop (at + size') out))
+            let end : at + (at + size - at) ≡ at + size = omega arith in
+            ap (λ t. take at out ++ (x ++ t)) (drop-drop (at + size - at) at out ∙ ap (λ j. drop j out) end)
+            ∙ sym (append_assoc (take at out) x (drop (at + size) out))
 
-        front : length (take at out ++ x) ≡ at + size'
+        front : length (take at out ++ x) ≡ at + size
         front = omega (arith, length-append (take at out) x, length-take-le at out (omega (arith, w.inside, w.same)), taken)
 
-        pub writing_more : Writing S n all before cells' size' placed (at + size') (count + 1)
+        pub writing_more : Writing all before placed (at + size) (count + 1) others
         unfolding joined
         writing_more =
             record {
-              holds = b.holds;
               inside = omega (arith, w.same, w.inside);
-              few = omega (arith, w.few, b.some);
-              same = omega (arith, ap length placed-parts, length-append (take at out ++ x) (drop (at + size') out), front, length-drop (at + size') out, w.same, w.inside);
+              few = omega (arith, w.few, some);
+              same = omega (arith, ap length placed-parts, length-append (take at out ++ x) (drop (at + size) out), front, length-drop (at + size) out, w.same, w.inside);
               untouched =
-                  ap (drop (at + size')) placed-parts
-                  ∙ drop_at (take at out ++ x) (drop (at + size') out) (at + size') front
-                  ∙ sym (drop-drop size' at out)
-                  ∙ ap (drop size') w.untouched
-                  ∙ drop-drop size' at before;
+                  ap (drop (at + size)) placed-parts
+                  ∙ drop_at (take at out ++ x) (drop (at + size) out) (at + size) front
+                  ∙ sym (drop-drop size at out)
+                  ∙ ap (drop size) w.untouched
+                  ∙ drop-drop size at before;
               words =
-                  ap (◌++ joined next) (ap (take (at + size')) placed-parts ∙ take_at (take at out ++ x) (drop (at + size') out) (at + size') front)
+                  ap (◌++ joined next) (ap (take (at + size)) placed-parts ∙ take_at (take at out ++ x) (drop (at + size) out) (at + size) front)
                   ∙ append_assoc (take at out) x (joined next)
                   ∙ ap (λ l. take at out ++ joined l) (sym split)
                   ∙ w.words;

@@ -52,10 +52,15 @@ starts_with S m k none = false
 starts_with S m k (some (functor a)) = nonempty (fillings S m (a + k))
 starts_with S m k (some (predicate a)) = false
 
--- Place 8 m + k of the table says whether k places can be filled by m cells; the first n places are filled in.
-pub record Known (S : List Symbol) (table : List Bool) (n : ℕ) : Type 0 where
-  pub size : length table ≡ 64
-  pub at : (j : ℕ) → j < n → get_or table j false ≡ nonempty (fillings S (j / 8) (j % 8))
+-- Entry k of a row says whether k places can be filled by m cells.
+pub record Known (S : List Symbol) (m : ℕ) (row : List Bool) : Type 0 where
+  pub size : length row ≡ 8
+  pub at : (k : ℕ) → k < 8 → get_or row k false ≡ nonempty (fillings S m k)
+
+-- The first n rows of the table are those of 0, 1, .. cells.
+pub record AllKnown (S : List Symbol) (rows : List (List Bool)) (n : ℕ) : Type 0 where
+  pub size : length rows ≡ 8
+  pub at : (m : ℕ) → m < n → Known S m (get_or rows m [])
 
 -- The least functor at or above `from` with which the first of k + 1 places can be filled, so that m cells fill the others.
 pub record Found (S : List Symbol) (m k from f : ℕ) : Type 0 where
@@ -75,22 +80,6 @@ Advanced S k before false after = followers S k before ≡ []
 -- The drill terms of at most n cells after x.
 unfoldable pub rest_after : List Symbol → ℕ → List ℕ → List (List ℕ)
 rest_after S n x = followers S 1 x ++ terms_from S (suc (length x)) (n - length x)
-
--- The first `size` cells hold no term yet, or one of at most n cells.
-pub record Holds (S : List Symbol) (n : ℕ) (cells : List ℕ) (size : ℕ) : Type 0 where
-  pub room : length cells ≡ 8
-  pub short : size ≤ n
-  pub valid : 1 ≤ size → fills S 1 (take size cells) ≡ true
-
--- A list of drill terms begins with the one that the cells now hold in their first places, or it is empty.
-pub record BeginsHere (S : List Symbol) (n : ℕ) (list : List (List ℕ)) (cells : List ℕ) (size : ℕ) : Type 0 where
-  pub holds : Holds S n cells size
-  pub some : 1 ≤ size
-  pub begins : list ≡ take size cells ∷ rest_after S n (take size cells)
-
-abbrev pub Begins : List Symbol → ℕ → List (List ℕ) → List ℕ → answer.Option ℕ → Type 0
-Begins S n list cells answer.None = (length cells ≡ 8) × (list ≡ [])
-Begins S n list cells (answer.Some size) = BeginsHere S n list cells size
 
 -- The given cells are none, or a term of at most n cells, n at most 8; and whether they are.
 pub record Given (S : List Symbol) (n : ℕ) (given : List ℕ) : Type 0 where

@@ -2,18 +2,25 @@
 // A call goes through the symbols at most 28 times, and at most 16 times more for each term that it makes (those written, and one more).
 #![tactic(auto)]
 
-ghost use Rattle.std.specs.Prelude.{◌≤◌, ◌≡◌, length, take};
+ghost use Rattle.std.specs.Prelude.{◌≤◌, ◌≡◌, length};
 ghost use Rattle.rules.specs.Refusals.{accepted};
 ghost use Rattle.rules.specs.Drill.{drill, list_after, fitting};
 ghost use Rattle.deck.specs.Kinds.{symbols_of};
-ghost use Rattle.drill.specs.Successors.{fills, Holds, rest_after, Given, Accepts};
+ghost use Rattle.drill.specs.Successors.{fills, rest_after, Given, Accepts};
+ghost use Rattle.drill.specs.Holding.{cells_of};
+ghost use Rattle.drill.specs.Listing.{terms_left};
 ghost use Rattle.drill.specs.Answers.{Answers};
 
-use deck::{Refusal, parts};
+use deck::Refusal;
+use deck::opened::Opened;
 use successor::Functors;
+use term::Term;
+use terms::Terms;
 
 mod successor;
 mod table;
+mod term;
+mod terms;
 
 // Whether cells are one variable-free term.
 fn is_term(symbols: &[u16], cells: &[u16]) -> bool
@@ -37,22 +44,19 @@ fn is_term(symbols: &[u16], cells: &[u16]) -> bool
     places == 0
 }
 
-// Writes the terms after the one that the first `held` cells hold, as many as fit whole; their number.
-// The cells are lent with a length beside them, since nothing is allocated.
-fn write(functors: &Functors, n: usize, cells: &mut [u16], held: usize, out: &mut [u16]) -> usize
-    requires { (n ≤ 8) × Holds (symbols_of functors.now.symbols.now) n cells.old held }
-    ensures number { result ≡ length (fitting (length out.old) (rest_after (symbols_of functors.now.symbols.now) n (take held cells.old))) }
-    ensures list { out.new ≡ list_after (accepted (fitting (length out.old) (rest_after (symbols_of functors.now.symbols.now) n (take held cells.old)))) out.old }
+// Writes the terms, as many as fit whole; their number. Counted by hand: it is returned in two places, and `enumerate` has none after the last item.
+fn write(terms: Terms, out: &mut [u16]) -> usize
+    ensures number { result ≡ length (fitting (length out.old) (terms_left terms.entry)) }
+    ensures list { out.new ≡ list_after (accepted (fitting (length out.old) (terms_left terms.entry))) out.old }
 {
-    let mut held = held;
     let mut at = 0;
     let mut count = 0;
-    while let Some(size) = functors.next(n, cells, held) {
+    for term in terms {
+        let size = term.size;
         if out.len() - at < size {
             return count;
         }
-        out[at..at + size].copy_from_slice(&cells[..size]);
-        held = size;
+        out[at..at + size].copy_from_slice(term.cells());
         at += size;
         count += 1;
     }
@@ -82,9 +86,20 @@ fn list(symbols: &[u16], n: usize, given: &[u16], out: &mut [u16]) -> usize
     ensures list { out.new ≡ list_after (accepted (fitting (length out.old) (rest_after (symbols_of symbols.now) n given.now))) out.old }
 {
     let functors = Functors::new(symbols);
-    let mut cells = [0; 8];
-    cells[..given.len()].copy_from_slice(given);
-    write(&functors, n, &mut cells, given.len(), out)
+    let last = given_term(given);
+    let terms = Terms { functors, n, last };
+    write(terms, out)
+}
+
+// The given term, if there is one.
+fn given_term(given: &[u16]) -> Option<Term>
+    requires { length given.now ≤ 8 }
+    ensures { cells_of result ≡ given.now }
+{
+    if given.is_empty() {
+        return None;
+    }
+    Some(Term::new(given))
 }
 
 // THE PUBLIC CALL: how many terms were written. A refusal leaves the lent list untouched; else the cells of the terms stand at its start, one after another, and the rest is untouched.
@@ -92,9 +107,11 @@ pub fn drill(deck: &[u16], n: u32, given: &[u16], out: &mut [u16]) -> Result<usi
     ensures answers { Answers (drill deck.now n given.now (length out.old)) result }
     ensures out_after { out.new ≡ list_after (drill deck.now n given.now (length out.old)) out.old }
 {
-    deck::open(deck)?;
-    let symbols = parts::symbols(deck);
-    let size = n as usize;
+    let opened = Opened::new(deck)?;
+    let symbols = opened.symbols();
+    let Ok(size) = usize::try_from(n) else {
+        return Err(Refusal::Drill);
+    };
     if !accepts(symbols, size, given) {
         return Err(Refusal::Drill);
     }

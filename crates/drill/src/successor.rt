@@ -1,20 +1,23 @@
 // The next term, made from the cells of the one before: from the right, the next greater functor with which the cells after it can be filled;
-// then the least filling.
-ghost use Rattle.std.specs.Prelude.{◌+◌, ◌-◌, suc, ◌≤◌, ◌<◌, ◌≡◌, true, length, take};
+// then the least filling. Bounds of 8 stay clauses: the cells are a part of a term's, and k a number between calls.
+// `as` is proved to lose nothing in this file; `u16::try_from` would want an answer for what does not fit.
+ghost use Rattle.std.specs.Prelude.{◌+◌, ◌-◌, suc, ◌≤◌, ◌<◌, ◌≡◌, true, length};
 ghost use Rattle.rules.specs.Drill.{fillings, terms_from};
 ghost use Rattle.signature.specs.Symbols.{symbol_count};
 ghost use Rattle.deck.specs.Kinds.{symbols_of};
-ghost use Rattle.drill.specs.Successors.{arity_at, fills, nonempty, Heads, Known, Sought, Advanced, Holds, Begins, rest_after};
+ghost use Rattle.drill.specs.Successors.{arity_at, fills, nonempty, Heads, AllKnown, Sought, Advanced, rest_after};
+ghost use Rattle.drill.specs.Holding.{Least, Holds, Begins, cells_of};
 
-use crate::table;
+use crate::table::Row;
+use crate::term::Term;
 
 // A deck's symbols, with the table of what they can fill.
 #[derive(Drop)]
 pub struct Functors<'a> {
     pub symbols: &'a [u16],
-    pub fillable: [bool; 64],
+    pub fillable: [[bool; 8]; 8],
     pub ghost few: { length symbols.now ≤ 4096 },
-    pub ghost known: { Known (symbols_of symbols.now) fillable 64 },
+    pub ghost known: { AllKnown (symbols_of symbols.now) fillable 8 },
 }
 
 impl<'a> Functors<'a> {
@@ -22,8 +25,30 @@ impl<'a> Functors<'a> {
         requires { length symbols.now ≤ 4096 }
         ensures { result.symbols.now ≡ symbols.now }
     {
-        let fillable = table::fillable(symbols);
+        let mut row = Row::first(symbols);
+        let cells = row.fillable;
+        let mut fillable = [cells; 8];
+        for m in 1..8 {
+            row = row.next();
+            let cells = row.fillable;
+            fillable[m] = cells;
+        }
         Functors { symbols, fillable }
+    }
+
+    // The row of m cells.
+    fn row(&self, m: usize) -> Row<'a>
+        requires { m < 8 }
+        ensures symbols { result.symbols.now ≡ self.now.symbols.now }
+        ensures cells { result.m ≡ m }
+    {
+        let symbols = self.symbols;
+        let fillable = self.fillable[m];
+        Row {
+            symbols,
+            m,
+            fillable,
+        }
     }
 
     // The least functor at or above `from` with which k + 1 places can be filled by m + 1 cells.
@@ -31,7 +56,7 @@ impl<'a> Functors<'a> {
         requires { (m < 8) × (k ≤ 8) × (from ≤ symbol_count self.now.symbols.now) }
         ensures { Sought (symbols_of self.now.symbols.now) m k from result }
     {
-        table::seek(self.symbols, &self.fillable, m, k, from)
+        self.row(m).seek(k, from)
     }
 
     // The number of terms that follow symbol f.
@@ -48,7 +73,7 @@ impl<'a> Functors<'a> {
         requires fillable { nonempty (fillings (symbols_of self.now.symbols.now) (length cells.old) k) ≡ true }
         ensures { Heads (symbols_of self.now.symbols.now) k (fillings (symbols_of self.now.symbols.now) (length cells.old) k) cells.new }
     {
-        if cells.len() == 0 {
+        if cells.is_empty() {
             return;
         }
         let f = self.seek(cells.len() - 1, k - 1, 0).unwrap();
@@ -63,7 +88,7 @@ impl<'a> Functors<'a> {
         requires terms { fills (symbols_of self.now.symbols.now) k cells.old ≡ true }
         ensures { Advanced (symbols_of self.now.symbols.now) k cells.old result cells.new }
     {
-        if cells.len() == 0 {
+        if cells.is_empty() {
             return false;
         }
         let m = cells.len() - 1;
@@ -81,31 +106,44 @@ impl<'a> Functors<'a> {
         true
     }
 
-    // The first term of `from` cells or more, n at most; its size.
-    fn first(&self, n: usize, cells: &mut [u16], from: usize) -> Option<usize>
-        requires { (length cells.old ≡ 8) × (n ≤ 8) × (1 ≤ from) × (from ≤ 9) }
-        ensures { Begins (symbols_of self.now.symbols.now) n (terms_from (symbols_of self.now.symbols.now) from (suc n - from)) cells.new result }
+    // The least term of `size` cells.
+    fn least(&self, size: usize) -> Term
+        requires size { (1 ≤ size) × (size ≤ 8) }
+        requires fillable { nonempty (fillings (symbols_of self.now.symbols.now) size 1) ≡ true }
+        ensures { Least (symbols_of self.now.symbols.now) size result }
+    {
+        let mut cells = [0; 8];
+        self.fill(&mut cells[..size], 1);
+        Term { cells, size }
+    }
+
+    // The first term of `from` cells or more, n at most. No `find`: the library tells nothing of it over `from..=n`, and its closure would ask again that
+    // size is 1 to 8.
+    fn first(&self, n: usize, from: usize) -> Option<Term>
+        requires { (n ≤ 8) × (1 ≤ from) × (from ≤ 9) }
+        ensures { Begins (symbols_of self.now.symbols.now) n (terms_from (symbols_of self.now.symbols.now) from (suc n - from)) result }
     {
         for size in from..=n {
             if self.seek(size - 1, 0, 0).is_some() {
-                self.fill(&mut cells[..size], 1);
-                return Some(size);
+                return Some(self.least(size));
             }
         }
         None
     }
 
-    // The term after the one that the first `size` cells hold, n cells at most; its size. With size 0, the first term of all.
-    pub fn next(&self, n: usize, cells: &mut [u16], size: usize) -> Option<usize>
-        requires { (n ≤ 8) × Holds (symbols_of self.now.symbols.now) n cells.old size }
-        ensures { Begins (symbols_of self.now.symbols.now) n (rest_after (symbols_of self.now.symbols.now) n (take size cells.old)) cells.new result }
+    // The term after one, n cells at most; after none, the first term of all.
+    pub fn next(&self, n: usize, before: Option<Term>) -> Option<Term>
+        requires { (n ≤ 8) × Holds (symbols_of self.now.symbols.now) n before }
+        ensures { Begins (symbols_of self.now.symbols.now) n (rest_after (symbols_of self.now.symbols.now) n (cells_of before)) result }
     {
-        if size == 0 {
-            return self.first(n, cells, 1);
-        }
+        let Some(term) = before else {
+            return self.first(n, 1);
+        };
+        let size = term.size;
+        let mut cells = term.cells;
         if self.advance(&mut cells[..size], 1) {
-            return Some(size);
+            return Some(Term { cells, size });
         }
-        self.first(n, cells, size + 1)
+        self.first(n, size + 1)
     }
 }

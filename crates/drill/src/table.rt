@@ -1,58 +1,74 @@
-// Whether k places can be filled by exactly m cells, for all m and k below 8, and the next functor with which they can.
-ghost use Rattle.std.specs.Prelude.{◌+◌, ◌*◌, ◌≤◌, ◌<◌, ◌≡◌, length};
+// Whether m cells can fill k places, a row for each m below 8, and the next functor with which they can.
+ghost use Rattle.std.specs.Prelude.{◌+◌, ◌≤◌, ◌<◌, ◌≡◌, length};
 ghost use Rattle.std.proofs.Math.ListN.{get_elem?};
-ghost use Rattle.rules.specs.Drill.{fillings};
 ghost use Rattle.signature.specs.Symbols.{symbol_count};
 ghost use Rattle.deck.specs.Kinds.{symbols_of};
-ghost use Rattle.drill.specs.Successors.{starts_with, nonempty, Known, Sought};
+ghost use Rattle.drill.specs.Successors.{starts_with, Known, Sought};
 
-// Whether k + 1 places can be filled by m + 1 cells of which symbol f is the first.
-fn starts(symbols: &[u16], table: &[bool], m: usize, k: usize, f: usize) -> bool
-    requires bounds { (m < 8) × (k ≤ 8) × (f < symbol_count symbols.now) }
-    requires known { Known (symbols_of symbols.now) table.now (8 * m + 8) }
-    ensures { result ≡ starts_with (symbols_of symbols.now) m k (get_elem? (symbols_of symbols.now) f) }
-{
-    if signature::is_predicate(symbols, f) {
-        return false;
-    }
-    let arity = signature::arity(symbols, f);
-    if m < arity + k {
-        return false;
-    }
-    table[8 * m + arity + k]
+// Over a deck's symbols, whether m cells can fill k places, for each k below 8.
+#[derive(Drop)]
+pub struct Row<'a> {
+    pub symbols: &'a [u16],
+    pub m: usize,
+    pub fillable: [bool; 8],
+    pub ghost small: { m < 8 },
+    pub ghost known: { Known (symbols_of symbols.now) m fillable },
 }
 
-// The least functor at or above `from` that can be the first cell. It goes through the symbols once.
-pub fn seek(symbols: &[u16], table: &[bool], m: usize, k: usize, from: usize) -> Option<usize>
-    requires bounds { (m < 8) × (k ≤ 8) × (from ≤ symbol_count symbols.now) }
-    requires known { Known (symbols_of symbols.now) table.now (8 * m + 8) }
-    ensures { Sought (symbols_of symbols.now) m k from result }
-{
-    (from..signature::count(symbols)).find(|f| starts(symbols, table, m, k, *f))
-}
+impl<'a> Row<'a> {
+    // The row of no cells: they fill no places.
+    pub fn first(symbols: &'a [u16]) -> Row<'a>
+        ensures symbols { result.symbols.now ≡ symbols.now }
+        ensures cells { result.m ≡ 0 }
+    {
+        let mut fillable = [false; 8];
+        fillable[0] = true;
+        Row {
+            symbols,
+            m: 0,
+            fillable,
+        }
+    }
 
-// Whether k places can be filled by m cells, from the places of the table before.
-fn entry(symbols: &[u16], table: &[bool], m: usize, k: usize) -> bool
-    requires { (m < 8) × (k < 8) × Known (symbols_of symbols.now) table.now (8 * m + k) }
-    ensures { result ≡ nonempty (fillings (symbols_of symbols.now) m k) }
-{
-    if k == 0 {
-        return m == 0;
+    // The row of one more cell.
+    pub fn next(&self) -> Row<'a>
+        requires { self.now.m < 7 }
+        ensures symbols { result.symbols.now ≡ self.now.symbols.now }
+        ensures cells { result.m ≡ self.now.m + 1 }
+    {
+        let symbols = self.symbols;
+        let m = self.m + 1;
+        let mut fillable = [false; 8];
+        for k in 1..=m {
+            fillable[k] = self.seek(k - 1, 0).is_some();
+        }
+        Row {
+            symbols,
+            m,
+            fillable,
+        }
     }
-    if m < k {
-        return false;
-    }
-    seek(symbols, table, m - 1, k - 1, 0).is_some()
-}
 
-// The table, made row by row.
-pub fn fillable(symbols: &[u16]) -> [bool; 64]
-    ensures { Known (symbols_of symbols.now) result 64 }
-{
-    let mut table = [false; 64];
-    for i in 0..64 {
-        let place = entry(symbols, &table, i / 8, i % 8);
-        table[i] = place;
+    // Whether k + 1 places can be filled by m + 1 cells of which symbol f is the first.
+    fn starts(&self, k: usize, f: usize) -> bool
+        requires { (k ≤ 8) × (f < symbol_count self.now.symbols.now) }
+        ensures { result ≡ starts_with (symbols_of self.now.symbols.now) self.now.m k (get_elem? (symbols_of self.now.symbols.now) f) }
+    {
+        if signature::is_predicate(self.symbols, f) {
+            return false;
+        }
+        let arity = signature::arity(self.symbols, f);
+        if self.m < arity + k {
+            return false;
+        }
+        self.fillable[arity + k]
     }
-    table
+
+    // The least functor at or above `from` that can be the first of m + 1 cells that fill k + 1 places. It goes through the symbols once.
+    pub fn seek(&self, k: usize, from: usize) -> Option<usize>
+        requires { (k ≤ 8) × (from ≤ symbol_count self.now.symbols.now) }
+        ensures { Sought (symbols_of self.now.symbols.now) self.now.m k from result }
+    {
+        (from..signature::count(self.symbols)).find(|f| self.starts(k, *f))
+    }
 }

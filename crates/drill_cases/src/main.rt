@@ -1,25 +1,21 @@
 // Drill terms of small decks: the refusal's number or how many terms were written, and then the words of the lent list.
 #![tactic(auto)]
 
+use std::fmt::Display;
 use std::io;
 
-fn show_word(rt: &impl Print, word: u16) -> io::Result<()> {
-    print!(rt; " {word}")
-}
-
-fn show(rt: &impl Print, kind: &[u8], number: u64, list: &[u16]) -> io::Result<()> {
-    rt.write_all(kind)?;
-    print!(rt; "{number}:")?;
+fn show(rt: &impl Print, kind: &str, number: impl Display + Drop, list: &[u16]) -> io::Result<()> {
+    print!(rt; "{kind} {number}:")?;
     for word in list {
-        show_word(rt, *word)?;
+        print!(rt; " {word}")?;
     }
-    rt.write_all(b"\n")
+    println!(rt; "")
 }
 
 fn call(rt: &impl Print, deck: &[u16], n: u32, given: &[u16], list: &mut [u16]) -> io::Result<()> {
     match drill::drill(deck, n, given, list) {
-        Ok(count) => show(rt, b"written ", count as u64, list),
-        Err(why) => show(rt, b"refused ", u64::from(u32::from(why)), list),
+        Ok(count) => show(rt, "written", count, list),
+        Err(why) => show(rt, "refused", u32::from(why), list),
     }
 }
 

@@ -1,8 +1,9 @@
 -- What the program's run comes to, test by test.
-use Rattle.std.proofs.Common.{◌≡◌, ℕ, ◌-◌, ◌%◌, ◌≤◌, ◌<◌, List, [], ◌∷◌, length, take, drop, get_or, refl, sym, ap, ap₂, ◌∙◌, arith}
+use Rattle.std.proofs.Common.{◌≡◌, ℕ, ◌-◌, ◌≤◌, List, [], ◌∷◌, length, take, drop, get_or, refl, sym, ap, ap₂, ◌∙◌, arith}
 use Rattle.std.proofs.Math.Option.{Option}
 use lib.Seq.{take-length}
-use borrow.Author.Tests.{le-leb, lt-leb, eq-eqb, ne_eqb}
+use mathlib.Core.Bool.{true, false, ◌&&◌}
+use lib.Dec.{leb}
 use Rattle.rules.specs.Syntax.{Deck}
 use Rattle.rules.specs.Refusals.{Refusal, bad_drill, Checked, refused, accepted, and_then, require}
 use Rattle.rules.specs.Decks.{open_deck}
@@ -34,22 +35,13 @@ module _ (file : Option (List ℕ)) (input : List ℕ) where
 
 -- The input's bytes.
 module _ (input : List ℕ) where
-  pub drill_input-odd : (length input % 2 ≡ 0 → ⊥) → drill_input input ≡ refused bad_drill
-  unfolding drill_input even and_then require
-  drill_input-odd h = rw (ne_eqb (length input % 2) 0 h)
+  pub drill_input-refused : (even input && (leb 2 (length input) && leb (length input) 18)) ≡ false → drill_input input ≡ refused bad_drill
+  unfolding drill_input and_then require
+  drill_input-refused e = rw e refl
 
-  module _ (e : length input % 2 ≡ 0) where
-    pub drill_input-short : length input < 2 → drill_input input ≡ refused bad_drill
-    unfolding drill_input even and_then require
-    drill_input-short h = rw (eq-eqb (length input % 2) 0 e, lt-leb 2 (length input) h)
-
-    pub drill_input-long : 2 ≤ length input → 18 < length input → drill_input input ≡ refused bad_drill
-    unfolding drill_input even and_then require
-    drill_input-long a h = rw (eq-eqb (length input % 2) 0 e, le-leb 2 (length input) a, lt-leb (length input) 18 h)
-
-    pub drill_input-words : 2 ≤ length input → length input ≤ 18 → drill_input input ≡ accepted (words_from input)
-    unfolding drill_input even and_then require
-    drill_input-words a h = rw (eq-eqb (length input % 2) 0 e, le-leb 2 (length input) a, le-leb (length input) 18 h)
+  pub drill_input-words : (even input && (leb 2 (length input) && leb (length input) 18)) ≡ true → drill_input input ≡ accepted (words_from input)
+  unfolding drill_input and_then require
+  drill_input-words e = rw e refl
 
 pub some_word : (input : List ℕ) → 2 ≤ length input → 1 ≤ length (words_from input)
 unfolding words_from

@@ -8,14 +8,14 @@ ghost use Rattle.program_parts.specs.Answers.{ComesTo, Prints};
 ghost use Rattle.drill_program.specs.Runs.{words_run};
 
 use deck::Refusal;
-use listing::input::read_words;
 use listing::output::Output;
-use program_parts::{deck_words, or_refusal};
+use program_parts::{are_words, deck_words, or_refusal, words_of};
 
 mod lines;
 
 // What is printed, at the start of `out`, whose other bytes stay; the result is how many bytes.
 // As many terms are printed as fit in 4,096 words. A cell takes at most 8 bytes.
+// A number beside the room (c): tried as a `&'a [u8]` of it with `follows_so`; the check wants `printed_spec` by hand, and a caller's `c.out-1.given` stays open.
 pub fn drill_printed(file: Option<&[u8]>, input: &[u8], out: &mut [u8; 32768]) -> usize
     ensures { Printed (drill_program (file_of file.entry) input.now) out.old result out.new }
 {
@@ -40,14 +40,10 @@ fn input_words<'a>(input: &[u8], words: &'a mut [u16; 9]) -> Result<&'a [u16], R
     ensures comes { ComesTo (drill_input input.now) result }
     ensures some_word { IfOk result (λ words. 1 ≤ length words.now) }
 {
-    if input.len() % 2 != 0 {
+    if !are_words(input, 2, 18) {
         return Err(Refusal::Drill);
     }
-    if input.len() < 2 || 18 < input.len() {
-        return Err(Refusal::Drill);
-    }
-    let n = read_words(input, words);
-    Ok(&words[..n])
+    Ok(words_of(input, words))
 }
 
 // The same from the words of both inputs on, of a deck that opens.
@@ -55,6 +51,7 @@ fn listed(deck: &[u16], input: &[u16], bytes: &mut [u8; 32768]) -> Result<usize,
     requires { 1 ≤ length input.now }
     ensures { Prints drill_prints (words_run deck.now (get_or input.now 0 0) (drop 1 input.now)) bytes.old result bytes.new }
 {
+    // By index (d): `split_first` has a `None` that cannot come.
     let n = u32::from(input[0]);
     let mut list = [0u16; 4096];
     let count = drill::drill(deck, n, &input[1..], &mut list)?;

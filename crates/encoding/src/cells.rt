@@ -1,47 +1,32 @@
 // The cells of the clauses.
-ghost use Rattle.std.specs.Prelude.{ℕ, ◌≡◌, ◌≤◌, ◌<◌, IfSome, length};
-ghost use Rattle.text.specs.Kinds.{kind_of};
-ghost use Rattle.naming.specs.Table.{Declared};
-ghost use Rattle.encoding.specs.Cells.{found_cell, CellOf, cell_put};
+ghost use Rattle.std.specs.Prelude.{◌≡◌, ◌≤◌, length};
+ghost use Rattle.text_rules.specs.TextWords.{Use, Entry as Rule, entry_cell, symbol_number};
+ghost use Rattle.text_rules.specs.Text.{text_declarations};
+ghost use Rattle.encoding.specs.Walk.{IsEntry};
 
-use text::names::Names;
-use text::tokens::{Kind, Token};
+use crate::walk::Entry;
+use naming::table::DeclaredNames;
 
-// The cell of a name after a token of the kind `before`, by the name's number; that is 0 for a name that is not found.
-fn symbol_cell(before: Kind, found: Option<usize>) -> u16
-    requires { IfSome found (λ n. n < 4096) }
-    ensures { result ≡ found_cell (kind_of before) found }
+// The deck's format (a): a negated predicate's cell is over its symbol's number, a variable's over its own. Matching has these two as well, but this crate does not stand on it.
+const NEGATED: u16 = 16384;
+
+const VARIABLE: u16 = 32768;
+
+// The number of a name's symbol: 0 for a name that is not declared, as in the rules. The cast is proved to fit; `try_from` would have an error that cannot come.
+fn symbol(names: DeclaredNames, name: &[u8]) -> u16
+    ensures number { (u : Use) → u.name ≡ name.now → result ≡ symbol_number (text_declarations names.entry.all.text.text.now) u }
+    ensures few { result ≤ 4095 }
 {
-    let symbol = found.unwrap_or(0) as u16;
-    match before {
-        Kind::Tilde => 16384 + symbol,
-        _ => symbol,
-    }
+    names.names.find(name).unwrap_or(0) as u16
 }
 
-// The cell of a token, if it takes one.
-pub fn cell_of(names: &Names, before: Kind, t: Token) -> Option<u16>
-    requires token { (t.from ≤ t.to) × (t.to ≤ length names.now.text) × ((v : ℕ) → t.kind ≡ Kind.Variable v → v ≤ 1023) }
-    requires declared { Declared names.now × (length names.now.entries ≤ 4096) }
-    ensures { CellOf names.now.text (kind_of before) t result }
+pub fn cell_of(names: DeclaredNames, given: Entry) -> u16
+    requires { (e : Rule) × IsEntry given e }
+    ensures { (e : Rule) → IsEntry given.entry e → result ≡ entry_cell (text_declarations names.entry.all.text.text.now) e }
 {
-    match t.kind {
-        Kind::Variable(v) => Some(32768 + v),
-        Kind::Name => {
-            let text = names.text();
-            let found = names.find(&text[t.from..t.to]);
-            Some(symbol_cell(before, found))
-        }
-        _ => None,
-    }
-}
-
-// A cell at place i, if there is one.
-pub fn put_cell(deck: &mut [u16], i: usize, cell: Option<u16>)
-    requires { IfSome cell (λ c. i < length deck.old) }
-    ensures { deck.new ≡ cell_put deck.old i cell }
-{
-    if let Some(cell) = cell {
-        deck[i] = cell;
+    match given {
+        Entry::Variable(v) => VARIABLE + v,
+        Entry::Negated(name) => NEGATED + symbol(names, name),
+        Entry::Head(name) | Entry::Symbol(name) => symbol(names, name),
     }
 }

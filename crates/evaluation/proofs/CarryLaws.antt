@@ -24,12 +24,11 @@ use Rattle.deck.specs.Answers.{number_of, refusal_for}
 use Rattle.deck.specs.declared.Refusal.{Refusal}
 use Rattle.deck.specs.declared.Refusal.TheVariants as why
 use Rattle.std.specs.Prelude.{Option, Some, None, Result, Ok, Err}
-use Rattle.std.specs.Result.{result_and}
 use Rattle.std.specs.Option.{ok_or}
 use Rattle.stored.specs.Passing.{OpenFound}
 use Rattle.report.specs.declared.Report.{Report}
 use Rattle.top_level.specs.Top.{InOrder, Topped}
-use Rattle.evaluation.specs.Results.{check_goals, result_of, slices, OpenAs, CarriedAs, SomeInOrder}
+use Rattle.evaluation.specs.Results.{check_goals, result_of, slices, OpenAs, CarriedAs}
 use Rattle.deck.proofs.RefusalLaws.{number-accepts, number-refuses}
 use Rattle.evaluation.proofs.RunLaws.{passes, sizes-are, gives-refused, gives-accepted}
 
@@ -85,43 +84,25 @@ both-pass : (deck_words : List ℕ) (n k terms : ℕ) (store : List ℕ) (scratc
 unfolding carry check_goals and_then
 both-pass deck_words n k terms store scratch_size d u o s = rw (o, s) (goals-then (obtain bad_goals (read_open d.symbols n k terms store)) (check_tight d) (λ g. record { deck = d; goals = g }))
 
-module _ (deck_words : List ℕ) (n k terms : ℕ) (store : List ℕ) (scratch_size : ℕ) (words buffers : Result (Unit {0}) Refusal)
-    (w : number_of words ≡ checked_number (open_deck deck_words)) (b : number_of buffers ≡ checked_number (check_sizes (length store) scratch_size)) where
+module _ (deck_words : List ℕ) (n k terms : ℕ) (store : List ℕ) (scratch_size : ℕ) where
   abbrev carries : Checked Carried
   carries = carry deck_words n k terms store scratch_size
 
-  pub first-refused : (r : Refusal) → result_and words buffers ≡ Err r → carries ≡ refused (refusal_for r)
+  pub deck-refused : (why : Refusal) → number_of (Err why) ≡ checked_number (open_deck deck_words) → carries ≡ refused (refusal_for why)
   unfolding carry and_then
-  first-refused = go words buffers w b
-    where
-      go : (x y : Result (Unit {0}) Refusal) → number_of x ≡ checked_number (open_deck deck_words) → number_of y ≡ checked_number (check_sizes (length store) scratch_size)
-          → (r : Refusal) → result_and x y ≡ Err r → carries ≡ refused (refusal_for r)
-      go (Ok u) y p q r e =
-          let d = number-accepts (open_deck deck_words) p in
-          let s = number-refuses r (check_sizes (length store) scratch_size) (sym (ap number_of e) ∙ q) in
-          rw (d.1, s)
-      go (Err x) y p q r e = let s = number-refuses r (open_deck deck_words) (sym (ap number_of e) ∙ p) in rw s
+  deck-refused why e = let o = number-refuses why (open_deck deck_words) e in rw o
 
-  pub record Passed : Type 0 where
-    pub deck : Deck
-    pub opens : open_deck deck_words ≡ accepted deck
-    pub goes : carries ≡ and_then (check_goals deck n k terms store) (λ g. accepted (record { deck = deck; goals = g }))
+  module _ (d : Deck) (o : open_deck deck_words ≡ accepted d) where
+    pub sizes-refused : (why : Refusal) → number_of (Err why) ≡ checked_number (check_sizes (length store) scratch_size) → carries ≡ refused (refusal_for why)
+    unfolding carry and_then
+    sizes-refused why e = let s = number-refuses why (check_sizes (length store) scratch_size) e in rw (o, s)
 
-  pub first-passed : result_and words buffers ≡ (Ok tt) → Passed
-  first-passed = go words buffers w b
-    where
-      go : (x y : Result (Unit {0}) Refusal) → number_of x ≡ checked_number (open_deck deck_words) → number_of y ≡ checked_number (check_sizes (length store) scratch_size)
-          → result_and x y ≡ (Ok tt) → Passed
-      go (Ok u) y p q e =
-          let d = number-accepts (open_deck deck_words) p in
-          let s = number-accepts (check_sizes (length store) scratch_size) (sym (ap number_of e) ∙ q) in
-          record { deck = d.0; opens = d.1; goes = both-pass deck_words n k terms store scratch_size d.0 s.0 d.1 s.1 }
-      go (Err x) y p q e = absurd (let z : ◌≡◌ {A = ℕ} 0 1 = cc in omega arith)
-
-  pub carried-as : (p : Passed) (r : Result (ℕ × ℕ) Refusal) → OpenAs p.deck.symbols (check_goals p.deck n k terms store) store r → CarriedAs carries store r
-  unfolding and_then
-  carried-as p (Err x) h = p.goes ∙ rw h
-  carried-as p (Ok places) h = (record { deck = p.deck; goals = h.0 }, p.goes ∙ rw h.1, h.2)
+    pub carried-as : 0 ≡ checked_number (check_sizes (length store) scratch_size) → (r : Result (ℕ × ℕ) Refusal) → OpenAs d.symbols (check_goals d n k terms store) store r → CarriedAs carries store r
+    unfolding and_then
+    carried-as e (Err x) h = let s = number-accepts (check_sizes (length store) scratch_size) e in both-pass deck_words n k terms store scratch_size d s.0 o s.1 ∙ rw h
+    carried-as e (Ok places) h =
+        let s = number-accepts (check_sizes (length store) scratch_size) e in
+        (record { deck = d; goals = h.0 }, both-pass deck_words n k terms store scratch_size d s.0 o s.1 ∙ rw h.1, h.2)
 
 -- THE RUN: refused, and from the goals that were let through.
 module _ (deck_words : List ℕ) (n k terms : ℕ) (store scratch : List ℕ) where
@@ -144,11 +125,8 @@ module _ (deck_words : List ℕ) (n k terms : ℕ) (store scratch : List ℕ) wh
         let z = sizes-are (length store) (length scratch) s.0 s.1 in
         (z.2, z.1)
 
-    carried-opens : open_deck deck_words ≡ accepted h.0.deck
+    pub carried-opens : open_deck deck_words ≡ accepted h.0.deck
     carried-opens = (carry-parts deck_words n k terms store (length scratch) h.0 h.1).0
-
-    pub carried-in-order : SomeInOrder deck_words store p.0 p.1
-    carried-in-order = record { deck = h.0.deck; goals = h.0.goals.pending; parked_goals = h.0.goals.parked; opens = carried-opens; in_order = h.2 }
 
     pub ran-on-accepted : (budget : ℕ) (answers answers' store' scratch' : List ℕ) (r : Report) → length store' ≡ length store → length scratch' ≡ length scratch
         → ((d : Deck) (gs : List Goal) (ms : List Marked) → open_deck deck_words ≡ accepted d → InOrder d.symbols store p.0 p.1 gs ms → Topped d answers store gs ms budget answers' store' r)

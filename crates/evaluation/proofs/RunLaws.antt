@@ -19,8 +19,7 @@ use Rattle.rules.proofs.GoalLaws.{goals-length, unmarked-words}
 use Rattle.rules.proofs.DeckLaws.{steps-open, query-reads}
 use Rattle.rules.proofs.Demand3.{Accepted, run-accepted}
 use Rattle.deck.specs.declared.Refusal as declared
-use Rattle.std.specs.Prelude.{Result, Ok, Err}
-use Rattle.std.specs.Result.{result_and}
+use Rattle.std.specs.Prelude.{Ok, Err}
 use Rattle.std.specs.Ordering.{nat_cmp, is_le}
 use Rattle.std.proofs.lemmas.Bool.Decides.{nat_tests}
 use Rattle.deck.specs.Answers.{number_of, refusal_for, check_words}
@@ -44,14 +43,16 @@ unfolding require
 required n true u e = refl
 required n false u e = absurd (let z : ◌≡◌ {A = ℕ} 0 1 = cc in omega arith)
 
--- Of two checks, the number of the first that refuses.
-then-number : {A B : Type 0} (c : Checked A) (next : Checked B) (first second : Result (Unit {0}) declared.Refusal) → number_of first ≡ checked_number c → number_of second ≡ checked_number next
-    → number_of (result_and first second) ≡ checked_number (and_then c (λ _. next))
+-- Of two checks, where the first refuses and where it does not.
+then-refused : {A B : Type 0} (c : Checked A) (next : Checked B) (why : declared.Refusal) → number_of (Err why) ≡ checked_number c → number_of (Err why) ≡ checked_number (and_then c (λ _. next))
 unfolding and_then
-then-number (refused n) next (Ok u) second e f = absurd (omega (arith, number-positive n))
-then-number (refused n) next (Err why) second e f = e
-then-number (accepted a) next (Ok u) second e f = f
-then-number (accepted a) next (Err why) second e f = absurd (refused-number why e)
+then-refused (refused n) next why e = e
+then-refused (accepted a) next why e = absurd (refused-number why e)
+
+then-next : {A B : Type 0} (c : Checked A) (next : Checked B) → 0 ≡ checked_number c → checked_number next ≡ checked_number (and_then c (λ _. next))
+unfolding and_then
+then-next (refused n) next e = absurd (omega (arith, number-positive n))
+then-next (accepted a) next e = refl
 
 -- A check gives its number, whatever it lets through.
 last-number : {A B : Type 0} (c : Checked A) (b : B) → checked_number c ≡ checked_number (and_then c (λ _. accepted b))
@@ -89,10 +90,14 @@ module _ (store_size scratch_size : ℕ) where
       (leb-true 1024 store_size b.0, leb-true store_size 65535 b.1, leb-true 8192 scratch_size (required bad_scratch (leb 8192 scratch_size) u s.2))
 
 module _ (deck_words query_words : List ℕ) (total answer_room store_size scratch_size : ℕ) where
-  pub sized-number : (words buffers : Result (Unit {0}) declared.Refusal) → number_of words ≡ checked_number (check_words deck_words query_words)
-      → number_of buffers ≡ checked_number (check_sizes store_size scratch_size) → number_of (result_and words buffers) ≡ checked_number (check_sized deck_words query_words store_size scratch_size)
+  pub sized-refused : (why : declared.Refusal) → number_of (Err why) ≡ checked_number (check_words deck_words query_words)
+      → number_of (Err why) ≡ checked_number (check_sized deck_words query_words store_size scratch_size)
   unfolding check_sized
-  sized-number = then-number (check_words deck_words query_words) (check_sizes store_size scratch_size)
+  sized-refused = then-refused (check_words deck_words query_words) (check_sizes store_size scratch_size)
+
+  pub sized-next : 0 ≡ checked_number (check_words deck_words query_words) → checked_number (check_sizes store_size scratch_size) ≡ checked_number (check_sized deck_words query_words store_size scratch_size)
+  unfolding check_sized
+  sized-next = then-next (check_words deck_words query_words) (check_sizes store_size scratch_size)
 
   -- What refusals 1 to 9 refuse, the run refuses.
   pub run-refused : (why : declared.Refusal) → number_of (Err why) ≡ checked_number (check_sized deck_words query_words store_size scratch_size)

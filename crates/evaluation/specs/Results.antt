@@ -2,9 +2,7 @@
 use Rattle.std.specs.Prelude.{ℕ, ◌≡◌, List, Result, Ok, Err}
 use Rattle.rules.specs.Refusals as rules
 use Rattle.rules.specs.Run as run
-use Rattle.rules.specs.Syntax.{Symbol, Deck, Goal}
-use Rattle.rules.specs.Goals.{Marked}
-use Rattle.rules.specs.Decks.{open_deck}
+use Rattle.rules.specs.Syntax.{Symbol, Deck}
 use Rattle.rules.specs.Stored.{OpenGoals, read_open}
 use Rattle.rules.specs.Loose.{check_tight}
 use Rattle.report.specs.Reports.{report_of}
@@ -37,14 +35,6 @@ abbrev pub CarriedAs : rules.Checked run.Carried → List ℕ → Result (ℕ ×
 CarriedAs c store (Ok p) =
     (x : run.Carried) × (c ≡ rules.accepted x) × InOrder x.deck.symbols store p.0 p.1 x.goals.pending x.goals.parked
 CarriedAs c store (Err why) = c ≡ rules.refused (refusal_for why)
-
--- An opened deck, and goals in order over its symbols, whatever they are.
-pub record SomeInOrder (deck_words store : List ℕ) (held end : ℕ) : Type 0 where
-  pub deck : Deck
-  pub goals : List Goal
-  pub parked_goals : List Marked
-  pub opens : open_deck deck_words ≡ rules.accepted deck
-  pub in_order : InOrder deck.symbols store held end goals parked_goals
 
 abbrev pub slices : List ℕ → List ℕ → List ℕ → run.Slices
 slices answers store scratch = record { answers = answers; store = store; scratch = scratch }

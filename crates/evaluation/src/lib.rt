@@ -1,10 +1,10 @@
 // The public run: its refusals, and an accepted run from the first goal to the report.
 #![tactic(auto)]
 
-ghost use Rattle.std.specs.Prelude.{◌≡◌, ℕ, ◌≤◌, length, List, Ok};
+ghost use Rattle.std.specs.Prelude.{◌≡◌, ℕ, ◌≤◌, length, List, IfOk};
 ghost use Rattle.rules.specs.Refusals.{accepted, checked_number};
 ghost use Rattle.rules.specs.Run.{run, check_sizes};
-ghost use Rattle.deck.specs.Answers.{number_of};
+ghost use Rattle.deck.specs.Answers.{answer_number, number_of};
 ghost use Rattle.rules.specs.Syntax.{Deck, Goal};
 ghost use Rattle.rules.specs.Goals.{Marked};
 ghost use Rattle.rules.specs.Decks.{open_deck};
@@ -14,25 +14,41 @@ ghost use Rattle.evaluation.specs.Results.{check_sized, result_of, slices};
 use clauses::Clauses;
 use clauses::by_predicate::Index;
 use deck::Refusal;
+use deck::opened::Opened;
 use report::Report;
 use resolvents::workspace::Workspace;
-use top_level::Start;
+use top_level::{Parts, Start};
 
 pub mod carry;
 
-// Refusals 1 to 7 of the deck and the query, then 8 and 9 of the sizes of the store and the scratch.
-fn sized(deck: &[u16], query: &[u16], store: usize, scratch: usize) -> Result<(), Refusal>
-    ensures { number_of result ≡ checked_number (check_sized deck.now query.now store scratch) }
+// Refusals 1 to 7 of the deck and the query, then 8 and 9 of the sizes of the store and the scratch; or the deck.
+fn sized<'a>(
+    deck: &'a [u16],
+    query: &[u16],
+    store: usize,
+    scratch: usize,
+) -> Result<Opened<'a>, Refusal>
+    ensures number { answer_number result ≡ checked_number (check_sized deck.now query.now store scratch) }
+    ensures words { IfOk result (λ opened. opened.words.now ≡ deck.now) }
 {
-    deck::check(deck, query).and(sizes(store, scratch))
+    let opened = deck::check(deck, query)?;
+    sizes(store, scratch)?;
+    Ok(opened)
 }
 
 // These, then 13 and 14, loose variables of the deck and the query.
-fn refusal(deck: &[u16], query: &[u16], store: usize, scratch: usize) -> Result<(), Refusal>
-    ensures { (budget answer_room : ℕ) → number_of result ≡ checked_number (run deck.now query.now budget answer_room store scratch) }
+fn refusal<'a>(
+    deck: &'a [u16],
+    query: &[u16],
+    store: usize,
+    scratch: usize,
+) -> Result<Opened<'a>, Refusal>
+    ensures number { (budget answer_room : ℕ) → answer_number result ≡ checked_number (run deck.now query.now budget answer_room store scratch) }
+    ensures words { IfOk result (λ opened. opened.words.now ≡ deck.now) }
 {
-    sized(deck, query, store, scratch)?;
-    loose::check(deck, query)
+    let opened = sized(deck, query, store, scratch)?;
+    loose::check(&opened, query)?;
+    Ok(opened)
 }
 
 // The sizes of the store and the scratch.
@@ -48,6 +64,7 @@ fn sizes(store: usize, scratch: usize) -> Result<(), Refusal>
     Ok(())
 }
 
+// Answers, store and scratch stay three, as the C interface lends them.
 // THE PUBLIC RUN. A refusal leaves answers, store and scratch untouched. An accepted run fills the answer list from its start, and the
 // store begins with the pending goals in order, then the parked ones in order of parking; the rest of the store and the scratch are free.
 pub fn run(
@@ -60,46 +77,28 @@ pub fn run(
 ) -> Result<Report, Refusal>
     ensures { Rattle.rules.specs.Run.Ran deck.now query.now budget (slices answers.old store.old scratch.old) (result_of result) (slices answers.new store.new scratch.new) }
 {
-    refusal(deck, query, store.len(), scratch.len())?;
-    Ok(accepted(deck, query, budget, answers, store, scratch))
-}
-
-// The run of a deck and a query that are accepted, on buffers of the right sizes.
-fn accepted(
-    deck: &[u16],
-    query: &[u16],
-    budget: u32,
-    answers: &mut [u16],
-    store: &mut [u16],
-    scratch: &mut [u16],
-) -> Report
-    requires { checked_number (run deck.now query.now budget (length answers.old) (length store.old) (length scratch.old)) ≡ 0 }
-    ensures { Rattle.rules.specs.Run.Ran deck.now query.now budget (slices answers.old store.old scratch.old) (result_of (Ok result)) (slices answers.new store.new scratch.new) }
-{
+    let opened = refusal(deck, query, store.len(), scratch.len())?;
     let held = top_level::first(query, store);
-    let start = Start {
-        parked: 0,
-        held,
-        budget,
-    };
-    from_goals(deck, start, answers, store, scratch)
+    let parts = Parts { parked: 0, held };
+    let start = Start { parts, budget };
+    Ok(from_goals(opened, start, answers, store, scratch))
 }
 
 // The evaluation from goals that are stored as a run holds them.
 fn from_goals(
-    deck: &[u16],
+    deck: Opened,
     start: Start,
     answers: &mut [u16],
     store: &mut [u16],
     scratch: &mut [u16],
 ) -> Report
-    requires opening { SomeOpening deck.now store.old start.parked start.held }
+    requires opening { SomeOpening deck.words.now store.old start.parts.parked start.parts.held }
     requires short_store { length store.old ≤ 65535 }
     requires room { 8192 ≤ length scratch.old }
-    ensures { (d : Deck) (gs : List Goal) (ms : List Marked) → open_deck deck.now ≡ accepted d → Stored d.symbols store.old start.parked start.held (opening gs ms) → Topped d answers.old store.old gs ms start.budget answers.new store.new result }
+    ensures { (d : Deck) (gs : List Goal) (ms : List Marked) → open_deck deck.entry.words.now ≡ accepted d → Stored d.symbols store.old start.parts.parked start.parts.held (opening gs ms) → Topped d answers.old store.old gs ms start.budget answers.new store.new result }
 {
     let mut index = Index::blank();
-    index.fill(deck);
+    index.fill(&deck);
     let clauses = Clauses::new(deck, &index);
     let mut work = Workspace::new(scratch);
     top_level::top(&clauses, start, answers, store, &mut work)

@@ -1,21 +1,17 @@
 -- Words written as a mirror image: one more word in front, the first word changed, words taken out. Assumes nothing.
 use Prim.Native.Nat.{ℕ, suc, ◌+◌, ◌-◌, ◌≤◌, ◌<◌}
 use mathlib.Core.Path.{◌≡◌, ap, sym, ◌∙◌}
-use mathlib.Core.List.{List, [], ◌∷◌, ◌++◌, reverse, reverse-cons}
+use mathlib.Core.List.{List, [], ◌∷◌, ◌++◌, reverse, reverse-cons, append_assoc}
 use native.Mathlib.Omega.{arith}
 use native.Mathlib.Numerals.{add-one}
 use lib.ListN.{length, get_or, take, drop, set, length-append, length-drop, length-reverse, take-append-drop}
-use lib.Seq.{sets, length-take-le, take-set-lt, set_at, set-set, drop-cons, drop-drop}
+use lib.Seq.{sets, sets-eq, length-take-le, take-set-lt, get_or_at, set_at, drop-cons, drop-drop}
 use Rattle.words.proofs.StoreLaws.{sets-append, down, mirror-length, removed}
 
 first_more : (l xs : List ℕ) (at k x : ℕ) → at + length xs ≡ k → set (sets l at (reverse xs)) k x ≡ sets l at (reverse (x ∷ xs))
 first_more l xs at k x e =
     let n : k ≡ at + length (reverse xs) = omega (arith, length-reverse xs) in
     rw (reverse-cons x xs, n) (sets-append (reverse xs) (x ∷ []) l at)
-
-first-changed : (l xs : List ℕ) (at k x y : ℕ) → at + length xs ≡ k → set (sets l at (reverse (y ∷ xs))) k x ≡ sets l at (reverse (x ∷ xs))
-first-changed l xs at k x y e =
-    ap (λ (r : List ℕ). set r k x) (sym (first_more l xs at k y e)) ∙ set-set (sets l at (reverse xs)) k y x ∙ first_more l xs at k x e
 
 -- The words xs up to two places before held, and then two more in front.
 pub two-more :
@@ -27,16 +23,32 @@ two-more l xs base held n a w e k =
     let q : base + length (a ∷ xs) ≡ held - 1 = omega arith in
     rw (b, first_more l xs base (held - 2) a m, first_more l (a ∷ xs) base (held - 1) w q)
 
--- The words, of which the first is changed to x, and two more in front.
-pub changed-and-two-more :
-    (l words : List ℕ) (base end n x a w : ℕ) → base + n + 2 ≡ end → length words ≡ n → 0 < n
-    → set (set (set (sets l base (reverse words)) (end - 3) x) (end - 2) a) (end - 1) w
-    ≡ sets l base (reverse (w ∷ a ∷ x ∷ drop 1 words))
-changed-and-two-more l [] base end n x a w e k z = absurd (omega arith)
-changed-and-two-more l (y ∷ xs) base end n x a w e k z =
+-- The words y, xs with two more in front, mirrored: y stands three places before the end.
+third-last :
+    (l xs : List ℕ) (base k w a y : ℕ) → base + length xs ≡ k → k + 3 ≤ length l
+    → sets l base (reverse (w ∷ a ∷ y ∷ xs)) ≡ (take base l ++ reverse xs) ++ (y ∷ a ∷ w ∷ drop (k + 3) l)
+third-last l xs base k w a y e h =
+    let ws = reverse (w ∷ a ∷ y ∷ xs) in
+    let n : base + length ws ≡ k + 3 = omega (arith, length-reverse (w ∷ a ∷ y ∷ xs)) in
+    sets-eq ws l base (omega arith)
+    ∙ rw n (simp (reverse-cons, append_assoc))
+
+-- The first of the words is read there, and changed there.
+pub first-of-mirrored :
+    (l words : List ℕ) (base end w a x : ℕ) (t : List ℕ) → base + length words + 2 ≡ end → end ≤ length l → 0 < length words
+    → t ≡ sets l (end - 2 - length words) (reverse (w ∷ a ∷ words))
+    → (get_or t (end - 3) 0 ≡ get_or words 0 0) × (set t (end - 3) x ≡ sets l base (reverse (w ∷ a ∷ x ∷ drop 1 words)))
+first-of-mirrored l [] base end w a x t e h z q = absurd (omega arith)
+first-of-mirrored l (y ∷ xs) base end w a x t e h z q =
+    let front = take base l ++ reverse xs in
+    let s : end - 2 - length (y ∷ xs) ≡ base = omega arith in
     let b : base + length xs ≡ end - 3 = omega arith in
-    let q : base ≡ end - 2 - n = omega arith in
-    rw (first-changed l xs base (end - 3) x y b, q) (two-more l (x ∷ xs) (end - 2 - n) end n a w (omega arith) (omega arith))
+    let m : end - 3 + 3 ≤ length l = omega arith in
+    let n : length front ≡ end - 3 = length-append (take base l) (reverse xs) ∙ omega (arith, length-reverse xs, length-take-le base l (omega arith)) in
+    let is : t ≡ front ++ (y ∷ a ∷ w ∷ drop (end - 3 + 3) l) = q ∙ rw s (third-last l xs base (end - 3) w a y b m) in (
+      ap (λ (r : List ℕ). get_or r (end - 3) 0) is ∙ get_or_at front y _ 0 (end - 3) n,
+      ap (λ (r : List ℕ). set r (end - 3) x) is ∙ set_at front y _ x (end - 3) n ∙ sym (third-last l xs base (end - 3) w a x b m),
+    )
 
 -- A literal's words, those of cells from s up to e: their number, the first of them, and the others.
 pub literal-words :

@@ -1,8 +1,14 @@
-// Goals in the store, as mirror images at the end of the words held.
+// Goals in the store, as mirror images at the end of the words held. The store and the number of words held stay two: a level works in a part
+// of the store, so that a struct of both would be made anew for each. The first goal's length is read as `usize::from(store[held - 1])` where
+// it is wanted: a function of it would take the same two values, and a clause that bounds them. `as` is proved to lose nothing in this file;
+// `u16::try_from` would want an answer for what does not fit.
 #![tactic(auto)]
 
 ghost use Rattle.std.specs.Prelude.{◌≡◌, ◌+◌, ◌-◌, ◌≤◌, ◌<◌, ◌∷◌, ◌++◌, reverse, length, take, drop, get_or};
 ghost use Rattle.std.proofs.lemmas.List.Edits.{sets};
+
+// What the first cell of a negative literal has more than that of the positive one: matching's number, on which this crate does not stand.
+const NEGATIVE: u16 = 16384;
 
 // Why a goal is parked: floundered, undecided, oversized, deep.
 #[derive(Clone, Copy, Debug, PartialEq, Eq)]
@@ -13,7 +19,7 @@ pub enum Mark {
     Deep,
 }
 
-// What a mark adds to a goal's word 0.
+// What a mark adds to a goal's word 0. The crate stored, which reads marks by the same 4096, does not stand on this one.
 impl From<Mark> for u16 {
     ghost use Rattle.std.specs.Prelude.{◌≡◌, ◌*◌};
     ghost use Rattle.rules.specs.Goals.{mark_number};
@@ -21,6 +27,7 @@ impl From<Mark> for u16 {
 
     ghost from_gives = { λ mark word. word ≡ 4096 * mark_number (mark_of mark) };
 
+    #[tactic(auto, unfolding(rules::specs::Goals::mark_number))]
     fn from(mark: Mark) -> u16 {
         match mark {
             Mark::Floundered => 4096,
@@ -42,7 +49,8 @@ pub fn restore(store: &mut [u16], held: usize, cells: &[u16], answers: usize)
     store[held - 1] = (n + 2) as u16;
 }
 
-// Takes the words from s up to e of the cells of the goal at the end of the words held out of it.
+// Takes the words from s up to e of the cells of the goal at the end of the words held out of it. s and e stay two: a `Range` is not `Copy`, and
+// the caller wants both after this.
 pub fn remove(store: &mut [u16], held: usize, s: usize, e: usize)
     requires { (s ≤ e) × (e + 2 ≤ get_or store.old (held - 1) 0) × (get_or store.old (held - 1) 0 ≤ held) × (held ≤ length store.old) × (0 < held) }
     ensures { take (held - (e - s)) store.new ≡ reverse ((get_or store.old (held - 1) 0 - (e - s)) ∷ (take (s + 1) (drop 1 (reverse (take held store.old))) ++ drop (e + 2) (reverse (take held store.old)))) }
@@ -59,11 +67,9 @@ pub fn ask(store: &mut [u16], held: usize, literal: &[u16]) -> usize
     ensures value { result ≡ length literal.now + 2 }
     ensures store_after { store.new ≡ sets store.old held (reverse ((length literal.now + 2) ∷ 0 ∷ (get_or literal.now 0 0 - 16384) ∷ drop 1 literal.now)) }
 {
-    let n = literal.len();
-    let end = held + n + 2;
-    words::mirror(literal, &mut store[held..held + n]);
-    store[end - 3] = literal[0] - 16384;
-    store[end - 2] = 0;
-    store[end - 1] = (n + 2) as u16;
-    n + 2
+    let words = literal.len() + 2;
+    let end = held + words;
+    restore(store, end, literal, 0);
+    store[end - 3] -= NEGATIVE;
+    words
 }

@@ -18,7 +18,7 @@ fn main(rt: HostRuntime) -> io::Result<()> {
 
 // Reads the deck from the file, if it is open, and the query from the input, and writes the listing.
 // No more is read than it takes to tell that there is too much.
-// The programs share no such function: each has other inputs and rooms, and a trait for them would need an `impl` as long as this body.
+// No function for all programs takes the rule's function: this contract would stay here, and that function would need one as long, over any rule.
 fn answer<D: Read, Q: Read, W: Write>(
     file: &mut Option<D>,
     input: &mut Q,

@@ -154,6 +154,7 @@ pub extern "C" fn leads_drill(
 {
     match drill::drill(deck, n, after, list) {
         Ok(terms) => {
+            // `as`, since `u64` has no `From` of `usize`.
             *count = terms as u64;
             0
         }

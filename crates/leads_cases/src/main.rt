@@ -5,34 +5,26 @@
 // Numbers are two bytes, low byte first.
 #![tactic(auto)]
 
-use case_file::{input, number, title};
+use case_file::CaseFile;
 use std::io::Read;
 use std::{fs, io};
 
 // Without the file there are no cases.
 fn main(rt: HostRuntime) -> io::Result<()> {
     match fs::open(&rt, "cases") {
-        Ok(mut file) => cases(&rt, &mut file),
+        Ok(file) => CaseFile::new(file, 2).each(|cases| case(&rt, cases)),
         Err(_) => Ok(()),
     }
 }
 
-fn cases<F: Read>(rt: &impl Print, file: &mut F) -> io::Result<()> {
-    for _ in 0..number::<F, 2>(file) {
-        case(rt, file)?;
-    }
-    Ok(())
-}
-
-fn case<F: Read>(rt: &impl Print, file: &mut F) -> io::Result<()> {
+fn case<F: Read>(rt: &impl Print, cases: &mut CaseFile<F>) -> io::Result<()> {
     let mut deck_room = [0u8; 32772];
     let mut query_room = [0u8; 1004];
     let mut out = [0u8; 65605];
-    title::<F, 2>(rt, file)?;
-    let present = number::<F, 2>(file) != 0;
-    let deck = input::<F, 2>(file, &mut deck_room);
-    let query = input::<F, 2>(file, &mut query_room);
-    let file = if present { Some(deck) } else { None };
-    let n = program::printed(file, query, &mut out);
+    cases.title(rt)?;
+    let present = cases.number() != 0;
+    let deck = cases.input(&mut deck_room);
+    let query = cases.input(&mut query_room);
+    let n = program::printed(present.then_some(deck), query, &mut out);
     rt.write_all(&out[..n])
 }

@@ -27,6 +27,7 @@ fn main(rt: HostRuntime) -> io::Result<()> {
 
 // Reads the deck and the budget from their files, if they are open, and the query from the input; keeps the goals left, and writes the listing.
 // No more is read than it takes to tell that there is too much; of a budget 32 bytes.
+// No function for all programs takes the rule's function: this contract would stay here, and that function would need one as long, over any rule.
 fn answer<D: Read, L: Read, Q: Read, W: Write>(
     rt: &impl Files,
     file: &mut Option<D>,
@@ -50,8 +51,9 @@ fn answer<D: Read, L: Read, Q: Read, W: Write>(
     let limit = contents(given, &mut limit_room);
     let query = taken(input, &mut query_room);
     let outputs = carry_program::open_printed(deck, query, limit, &mut out, &mut left);
-    let g = outputs.goals;
+    if let Some(g) = outputs.goals {
+        keep(rt, "open.goals.new", &left[..g]);
+    }
     let n = outputs.listing;
-    keep(rt, "open.goals.new", &left[..g]);
     to.write_all(&out[..n])
 }

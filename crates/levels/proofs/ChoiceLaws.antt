@@ -3,10 +3,10 @@ use Prim.Native.Nat.{ℕ, ◌+◌, ◌-◌, ◌≤◌}
 use mathlib.Core.Path.{◌≡◌, refl, sym, ◌∙◌, ap}
 use mathlib.Core.List.{List, [], ◌∷◌, ◌++◌, reverse, append_assoc}
 use native.Mathlib.Omega.{arith}
-use lib.ListN.{length, get_or, take, drop, length-reverse, length-append, take-append-drop}
-use lib.Seq.{sets, length-sets, length-take-le, take_at, drop_at}
+use lib.ListN.{length, get_or, take, drop, length-reverse, length-append, length-drop, take-append-drop}
+use lib.Seq.{length-take-le, take_at, drop_at}
 use Rattle.rules.specs.Terms.{Terms}
-use Rattle.rules.specs.Syntax.{Literal, pos, neg, Deck, Goal}
+use Rattle.rules.specs.Syntax.{Symbol, Literal, pos, neg, Deck, Goal}
 use Rattle.rules.specs.Refusals.{accepted}
 use Rattle.rules.specs.Decks.{open_deck, symbol_words}
 use Rattle.rules.specs.Cells.{write_literal, write_literals}
@@ -17,13 +17,13 @@ use Rattle.rules.proofs.GoalsKept.{wf-kept}
 use Rattle.rules.specs.Resolution.{Selection, nothing, positive, negative, select}
 use Rattle.rules.proofs.DeckLaws.{steps-open}
 use Rattle.rules.proofs.SelectLaws.{Selected, select-selected}
-use Rattle.words.proofs.StoreLaws.{take-sets}
+use Rattle.words.proofs.Reverse.{reverse_end}
 use Rattle.resolvents.specs.Selecting.{GoalCells, Spans, Selects}
 use Rattle.resolvents.specs.declared.select.Selected.TheVariants as selected
 use Rattle.goals.specs.Store.{Holding, atom_goal}
 use Rattle.derivation.specs.Derives.{Deriving}
 use Rattle.levels.specs.Levels.{Asking, Negates, Negating}
-use Rattle.goals.proofs.HeldLaws.{still-held, cells-length, first-length, first-answers, first-cells}
+use Rattle.goals.proofs.HeldLaws.{still-held, cells-length, first-room, first-length, first-answers, first-cells}
 use Rattle.levels.proofs.NegativeLaws.{atom-size, cells_before, before-length, literal-length, cells-around}
 
 -- THE SELECTED LITERAL, and where it stands.
@@ -76,18 +76,22 @@ pub record Copied (store : List ℕ) (held w a : ℕ) (row : List ℕ) : Type 0 
   pub long : w ≤ length row
   pub cells : take (w - 2) row ≡ take (w - 2) (reverse (take (held - 2) store))
 
-pub copied : (store row row' : List ℕ) (held w a : ℕ) → w ≡ get_or store (held - 1) 0 → a ≡ get_or store (held - 2) 0 → w ≤ held → held ≤ length store → w ≤ length row
-    → row' ≡ sets row 0 (take (w - 2) (reverse (take (held - 2) store))) → Copied store held w a row'
-copied store row row' held w a q r h k l e =
-    let xs = take (w - 2) (reverse (take (held - 2) store)) in
-    let n : length xs ≡ w - 2 =
-    length-take-le (w - 2) (reverse (take (held - 2) store))
+-- `image` is the mirror image that was written over the start of `row`.
+pub copied : {S : List Symbol} {store : List ℕ} {held : ℕ} {g : Goal} {gs : List Goal} → Holding S store held (g ∷ gs)
+    → (row image : List ℕ) (w a : ℕ) → w ≡ get_or store (held - 1) 0 → a ≡ get_or store (held - 2) 0 → 8192 ≤ length row
+    → image ≡ reverse (take (held - 2 - (held - 2 - (w - 2))) (drop (held - 2 - (w - 2)) store)) → Copied store held w a (image ++ drop (w - 2) row)
+copied {store = store} {held} h row image w a q r l e =
+    let k = first-room h in
+    let i : image ≡ take (w - 2) (reverse (take (held - 2) store)) = e ∙ reverse_end store (held - 2) (w - 2) (omega arith) (omega arith) in
+    let n : length image ≡ w - 2 =
+    ap length i
+    ∙ length-take-le (w - 2) (reverse (take (held - 2) store))
     (omega (arith, length-reverse (take (held - 2) store), length-take-le (held - 2) store (omega arith))) in
     record {
       words = q;
       answers = r;
-      long = omega (arith, ap length e, length-sets row 0 xs);
-      cells = ap (take (w - 2)) e ∙ take-sets xs row (w - 2) 0 (omega arith) (omega arith);
+      long = omega (arith, length-append image (drop (w - 2) row), length-drop (w - 2) row);
+      cells = take_at image (drop (w - 2) row) (w - 2) n ∙ i;
     }
 
 module _ (deck_words : List ℕ) {store row : List ℕ} {held w a : ℕ} (c : Copied store held w a row) {d : Deck} {g : Goal} {gs : List Goal}

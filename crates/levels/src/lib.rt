@@ -73,7 +73,8 @@ impl Account {
         Account { left, steps }
     }
 
-    // After a step that costs 1.
+    // After a step that costs 1. That something is left stays a clause: a type of accounts that can pay would be made at each turn and taken
+    // apart at once.
     pub fn pay_one(self) -> Account
         requires { 0 < self.left }
         ensures { result ≡ paid_one self }
@@ -112,7 +113,8 @@ pub struct Reply {
     pub account: Account,
 }
 
-// One step on the first goal of the words held.
+// One step on the first goal of the words held. Store and held stay two: a deeper level works in a part of the store, and level 0 past the goals
+// parked, so that a struct of both would be made anew each time. Clauses and workspace too: each contract would have to say that the clauses are the same.
 #[cycle(decide_level_negate_take_step)]
 pub fn take_step(
     clauses: &Clauses<'_>,
@@ -122,9 +124,9 @@ pub fn take_step(
     account: Account,
     work: &mut Workspace<'_>,
 ) -> Result<Turn, Halt>
-    requires first { SomeFirst clauses.now.deck.now store.old held }
+    requires first { SomeFirst clauses.now.deck.words.now store.old held }
     requires pays { 0 < account.left }
-    ensures { (d : Deck) (g : Goal) (gs : List Goal) → open_deck clauses.now.deck.now ≡ accepted d → Holding d.symbols store.old held (g ∷ gs) → Turned d below store.old held account g gs store.new result }
+    ensures { (d : Deck) (g : Goal) (gs : List Goal) → open_deck clauses.now.deck.words.now ≡ accepted d → Holding d.symbols store.old held (g ∷ gs) → Turned d below store.old held account g gs store.new result }
 {
     let length = usize::from(store[held - 1]);
     let answers = usize::from(store[held - 2]);
@@ -132,7 +134,8 @@ pub fn take_step(
     if answers == len {
         return Ok(Turn::Empty);
     }
-    words::copy_mirrored(store, held - 2, len, work.cells, 0);
+    let end = held - 2;
+    words::mirror(&store[end - len..end], &mut work.cells[..len]);
     let selected = select_literal(work.goal(len), clauses.symbols(), answers);
     match selected {
         Selected::Nothing => Ok(Turn::Park(Mark::Floundered, account.pay_one())),
@@ -172,9 +175,9 @@ fn negate(
     account: Account,
     work: &mut Workspace<'_>,
 ) -> Result<Turn, Halt>
-    requires negating { SomeNegating clauses.now.deck.now store.old work.old.cells.now held call.s call.e }
+    requires negating { SomeNegating clauses.now.deck.words.now store.old work.old.cells.now held call.s call.e }
     requires pays { 0 < account.left }
-    ensures { (d : Deck) (g : Goal) (gs : List Goal) (before : List Literal) (p : ℕ) (ts : Terms) (after : List Literal) → Negating clauses.now.deck.now store.old work.old.cells.now held call.s call.e d g gs before p ts after → Turned d below store.old held account g gs store.new result }
+    ensures { (d : Deck) (g : Goal) (gs : List Goal) (before : List Literal) (p : ℕ) (ts : Terms) (after : List Literal) → Negating clauses.now.deck.words.now store.old work.old.cells.now held call.s call.e d g gs before p ts after → Turned d below store.old held account g gs store.new result }
 {
     if below == 0 {
         return Ok(Turn::Park(Mark::Deep, account.pay_one()));
@@ -189,7 +192,8 @@ fn negate(
     settle(store, held, s, e, inner)
 }
 
-// A step on a selected negative literal, by what a new level said of its atom.
+// A step on a selected negative literal, by what a new level said of its atom. s and e stay two: a `Range` is not `Copy`, and both are wanted
+// after `remove`.
 fn settle(
     store: &mut [u16],
     held: usize,
@@ -223,10 +227,10 @@ pub fn decide(
     account: Account,
     work: &mut Workspace<'_>,
 ) -> Result<Reply, Halt>
-    requires decision { SomeDecision clauses.now.deck.now work.old.cells.now call.s call.e }
+    requires decision { SomeDecision clauses.now.deck.words.now work.old.cells.now call.s call.e }
     requires deeper { 0 < below }
     requires room { held + (call.e - call.s) + 2 ≤ length store.old }
-    ensures replied { (d : Deck) (p : ℕ) (ts : Terms) → open_deck clauses.now.deck.now ≡ accepted d → Asking work.old.cells.now call.s call.e d.symbols p ts → Replied d (below - 1) (length store.old - held) (atom_goal p ts ∷ []) account result }
+    ensures replied { (d : Deck) (p : ℕ) (ts : Terms) → open_deck clauses.now.deck.words.now ≡ accepted d → Asking work.old.cells.now call.s call.e d.symbols p ts → Replied d (below - 1) (length store.old - held) (atom_goal p ts ∷ []) account result }
     ensures store_unchanged { take held store.new ≡ take held store.old }
 {
     let n = ask(store, held, &work.cells[call.s..call.e]);
@@ -243,8 +247,8 @@ pub fn level(
     account: Account,
     work: &mut Workspace<'_>,
 ) -> Result<Reply, Halt>
-    requires { SomeHolding clauses.now.deck.now store.old start }
-    ensures { (d : Deck) (gs : List Goal) → open_deck clauses.now.deck.now ≡ accepted d → Holding d.symbols store.old start gs → Replied d below (length store.old) gs account result }
+    requires { SomeHolding clauses.now.deck.words.now store.old start }
+    ensures { (d : Deck) (gs : List Goal) → open_deck clauses.now.deck.words.now ≡ accepted d → Holding d.symbols store.old start gs → Replied d below (length store.old) gs account result }
 {
     let mut held = start;
     let mut account = account;
@@ -255,7 +259,8 @@ pub fn level(
             let stop = Stop::Budget;
             return Err(Halt { stop, account });
         }
-        match take_step(clauses, below, store, held, account, work)? {
+        let turn = take_step(clauses, below, store, held, account, work)?;
+        match turn {
             Turn::Empty => {
                 let verdict = Verdict::Succeeds;
                 let account = account.pay_one();

@@ -93,3 +93,11 @@ pub put_whole : {out text : List ℕ} {end : ℕ} {after : List ℕ} → Put out
 put_whole {out} {text} a h =
     let z : 0 + length text ≡ length text = omega arith in
     rw (a.place, a.bytes, sets-eq text out 0 (rw z h), z) (take_at text (drop (length text) out) (length text) refl)
+
+-- What is written can be lent; of an output that was empty it is the text.
+pub written-room : {out : Output} {text : List ℕ} {after : Output} → Fits out text → Adds out text after → after.at ≤ length after.bytes.now
+written-room h a = omega (arith, h, a.put.place, adds-length a)
+
+pub written-text :
+    {out : Output} {text : List ℕ} {after : Output} → out.at ≡ 0 → Fits out text → Adds out text after → take after.at after.bytes.now ≡ text
+written-text {text} z h a = put_whole (rw z at a.put) (omega (arith, h, z))

@@ -9,6 +9,7 @@ use Rattle.rules.specs.WellFormed.{All, WfTerms}
 use Rattle.rules.specs.Listing.{decimal}
 use Rattle.signature.specs.Symbols.{symbol_count, arity_at}
 use Rattle.listing.specs.declared.output.Output.{Output}
+use Rattle.listing.specs.declared.terms.Printer.{Printer}
 use Rattle.listing.specs.Put.{Fits, Adds}
 
 -- The cells begin with those of well-formed terms. The symbols are those that the symbol words are read as.
@@ -42,24 +43,24 @@ pub record Walked (out : Output) (cells : List ℕ) (text : List ℕ) (count : �
   pub adds : Adds out text after
   pub passed : others ≡ drop count cells
 
+-- A symbol's arguments.
+pub record ArgumentsAt (symbol_words cells : List ℕ) (symbol : ℕ) (ts : Terms) : Type 0 where
+  pub known : symbol < symbol_count symbol_words
+  pub arity : arity_at symbol_words symbol ≡ count ts
+  pub arguments : TermsAt symbol_words cells ts
+
 -- Room for the text of what the cells begin with, and that this text is what is printed, whatever they begin with.
-module _ (symbol_words cells : List ℕ) where
-  abbrev pub TermFits : ℕ → Output → Type 0
-  TermFits sign out = (t : Term) × TermAt symbol_words cells t × Fits out (show_term sign t [])
+module _ (p : Printer) (cells : List ℕ) where
+  abbrev pub TermFits : Output → Type 0
+  TermFits out = (t : Term) × TermAt p.symbols.now cells t × Fits out (show_term p.sign t [])
 
-  abbrev pub TermPrinted : ℕ → Output → Output → List ℕ → Type 0
-  TermPrinted sign out after others =
-      (t : Term) → TermAt symbol_words cells t → Walked out cells (show_term sign t []) (size t) after others
+  abbrev pub TermPrinted : Output → Output → List ℕ → Type 0
+  TermPrinted out after others =
+      (t : Term) → TermAt p.symbols.now cells t → Walked out cells (show_term p.sign t []) (size t) after others
 
-  -- A symbol's arguments.
-  pub record ArgumentsAt (symbol : ℕ) (ts : Terms) : Type 0 where
-    pub known : symbol < symbol_count symbol_words
-    pub arity : arity_at symbol_words symbol ≡ count ts
-    pub arguments : TermsAt symbol_words cells ts
+  abbrev pub AppliedFits : ℕ → Output → Type 0
+  AppliedFits symbol out = (ts : Terms) × ArgumentsAt p.symbols.now cells symbol ts × Fits out (show_term p.sign (app symbol ts) [])
 
-  abbrev pub AppliedFits : ℕ → ℕ → Output → Type 0
-  AppliedFits symbol sign out = (ts : Terms) × ArgumentsAt symbol ts × Fits out (show_term sign (app symbol ts) [])
-
-  abbrev pub AppliedPrinted : ℕ → ℕ → Output → Output → List ℕ → Type 0
-  AppliedPrinted symbol sign out after others =
-      (ts : Terms) → ArgumentsAt symbol ts → Walked out cells (show_term sign (app symbol ts) []) (sizes ts) after others
+  abbrev pub AppliedPrinted : ℕ → Output → Output → List ℕ → Type 0
+  AppliedPrinted symbol out after others =
+      (ts : Terms) → ArgumentsAt p.symbols.now cells symbol ts → Walked out cells (show_term p.sign (app symbol ts) []) (sizes ts) after others

@@ -1,5 +1,5 @@
 // The lines in front of the answers: verdict and stop, or the refusal.
-ghost use Rattle.std.specs.Prelude.{◌≡◌, List, [], ◌∷◌, ◌++◌, ◌+◌, ◌<◌, ◌≤◌, length};
+ghost use Rattle.std.specs.Prelude.{◌≡◌, ℕ, List, [], ◌∷◌, ◌++◌, ◌+◌, ◌<◌, ◌≤◌, length};
 ghost use Rattle.rules.specs.Syntax.{Goal};
 ghost use Rattle.rules.specs.Goals.{Marked};
 ghost use Rattle.rules.specs.Evaluation.{Outcome};
@@ -7,7 +7,7 @@ ghost use Rattle.rules.specs.Run as run;
 ghost use Rattle.rules.specs.Refusals.{Refusal, refusal_number, refused};
 ghost use Rattle.rules.specs.Listing.{verdict_text, stop_text, listing};
 ghost use Rattle.report.specs.Reports.{stop_of, report_of};
-ghost use Rattle.listing.specs.Put.{Put, Fits, Adds};
+ghost use Rattle.listing.specs.Put.{Fits, Adds};
 ghost use Rattle.listing.specs.Shown.{numbers_text, head_text};
 
 use crate::output::Output;
@@ -70,15 +70,14 @@ pub fn put_head(out: &mut Output, report: Report)
     );
 }
 
-// The listing of a refusal from the start of the output on. Returns the number of bytes.
-// By its number, so that this crate does not stand on the deck's.
-pub fn put_refusal(bytes: &mut [u8], number: u32) -> usize
-    requires { 19 ≤ length bytes.old }
-    ensures { (n : Refusal) → refusal_number n ≡ number → Put bytes.old 0 (listing (refused n)) result bytes.new }
-{
-    let mut out = Output::new(bytes);
-    out.put(b"refused ");
-    out.put_number(number);
-    out.put(b"\n");
-    out.at
+impl Output<'_> {
+    // Writes the listing of a refusal, given as anything that turns into its number: its enum is the deck's, on which this crate does not stand.
+    pub fn put_refusal<W: Into<u32>>(&mut self, why: W)
+        requires { self.old.at + 19 ≤ length self.old.bytes.now }
+        ensures { (n : Refusal) → ((number : ℕ) → W.converts why number → number ≡ refusal_number n) → Adds self.old (listing (refused n)) self.new }
+    {
+        self.put(b"refused ");
+        self.put_number(why.into());
+        self.put(b"\n");
+    }
 }

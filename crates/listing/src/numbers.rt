@@ -1,5 +1,5 @@
 // Decimal numbers, digit by digit from the greatest weight.
-// By methods and not by `Display`, whose clause says what is printed only where it gives `Ok`: a listing cannot fail.
+// By hand (a): document 02, U2, has each weight worked out from its place; `Display` says nothing where it gives `Err`, and the kit's `itoa` has no weights.
 ghost use Rattle.std.specs.Prelude.{◌<◌, ◌≡◌, [], ◌∷◌};
 ghost use Rattle.rules.specs.Listing.{decimal};
 ghost use Rattle.listing.specs.Digits.{digit, digits_at, weight_at, weights};
@@ -26,6 +26,7 @@ impl Output<'_> {
         if n < weight && weight != 1 {
             return;
         }
+        // `as`, since a remainder by 10 fits: `try_from` has an error that cannot come.
         self.put(&[b'0' + (n / weight % 10) as u8]);
     }
 

@@ -1,5 +1,5 @@
 // The output that text is printed to.
-ghost use Rattle.std.specs.Prelude.{◌≡◌, ◌*◌, length};
+ghost use Rattle.std.specs.Prelude.{◌≡◌, ◌≤◌, ◌*◌, length, take};
 ghost use Rattle.rules.specs.Program.{bytes_from};
 ghost use Rattle.listing.specs.Put.{Fits, Adds};
 
@@ -23,6 +23,14 @@ impl<'a> Output<'a> {
 }
 
 impl Output<'_> {
+    // What is written so far, if the place is inside.
+    pub fn written(&self) -> &[u8]
+        requires { self.now.at ≤ length self.now.bytes.now }
+        ensures { result.now ≡ take self.now.at self.now.bytes.now }
+    {
+        &self.bytes[..self.at]
+    }
+
     #[tactic(auto, using(words::proofs::Sets::put_sets))]
     pub fn put(&mut self, text: &[u8])
         requires { Fits self.old text.now }
@@ -34,7 +42,7 @@ impl Output<'_> {
         self.at = end;
     }
 
-    // Writes the bytes of words, low byte first, and returns their number.
+    // Writes the bytes of words, low byte first, and returns their number (a): this public function promises it besides `at`.
     pub fn put_words(&mut self, words: &[u16]) -> usize
         requires { Fits self.old (bytes_from words.now) }
         ensures adds { Adds self.old (bytes_from words.now) self.new }

@@ -4,45 +4,56 @@ ghost use Rattle.listing.specs.Standing.{TermFits, TermPrinted, AppliedFits, App
 
 use crate::output::Output;
 
+// From here on a cell is a variable, with its number above this (a): a cell is a word of the deck's format. Here once more, since this crate does not stand on matching.
+const VARIABLE: u16 = 32768;
+
+// How terms are printed: by the symbols that they are made of, and a byte in front of a variable's number.
+// The cells are no field: they move on at each term, and every clause would have to say besides that the symbols stay.
+#[derive(Clone, Copy)]
+pub struct Printer<'a> {
+    pub symbols: &'a [u16],
+    pub sign: u8,
+}
+
 // Takes the first cell from the front.
 pub fn next(cells: &mut &[u16]) -> u16
     requires { 0 < length cells.old.now }
     ensures { cells.old.now ≡ result ∷ cells.new.now }
 {
-    let all: &[u16] = *cells;
-    *cells = &all[1..];
-    all[0]
+    *cells.split_off_first().unwrap()
 }
 
-// Prints the term at the front of the cells, and passes them: a variable as `sign` and its number, a functor as s and its number with its arguments in brackets.
-#[cycle(put_applied_put_term)]
-pub fn put_term(out: &mut Output, cells: &mut &[u16], symbols: &[u16], sign: u8)
-    requires { TermFits symbols.now cells.old.now sign out.old }
-    ensures { TermPrinted symbols.now cells.old.now sign out.old out.new cells.new.now }
-{
-    let cell = next(cells);
-    if 32768 <= cell {
-        return out.put_prefixed(sign, u32::from(cell - 32768));
+impl Printer<'_> {
+    // Prints the term at the front of the cells, and passes them: a variable as `sign` and its number, a functor as s and its number with its arguments in brackets.
+    #[cycle(put_applied_put_term)]
+    pub fn put_term(&self, out: &mut Output, cells: &mut &[u16])
+        requires { TermFits self.now cells.old.now out.old }
+        ensures { TermPrinted self.now cells.old.now out.old out.new cells.new.now }
+    {
+        let cell = next(cells);
+        if VARIABLE <= cell {
+            return out.put_prefixed(self.sign, u32::from(cell - VARIABLE));
+        }
+        self.put_applied(out, cells, cell);
     }
-    put_applied(out, cells, cell, symbols, sign);
-}
 
-// Prints a symbol as s and its number, and the arguments, as many as its arity, whose cells are at the front, in brackets.
-#[cycle(put_applied_put_term)]
-pub fn put_applied(out: &mut Output, cells: &mut &[u16], symbol: u16, symbols: &[u16], sign: u8)
-    requires { AppliedFits symbols.now cells.old.now symbol sign out.old }
-    ensures { AppliedPrinted symbols.now cells.old.now symbol sign out.old out.new cells.new.now }
-{
-    out.put_prefixed(b's', u32::from(symbol));
-    let arity = signature::arity(symbols, usize::from(symbol));
-    if arity == 0 {
-        return;
+    // Prints a symbol as s and its number, and the arguments, as many as its arity, whose cells are at the front, in brackets.
+    #[cycle(put_applied_put_term)]
+    pub fn put_applied(&self, out: &mut Output, cells: &mut &[u16], symbol: u16)
+        requires { AppliedFits self.now cells.old.now symbol out.old }
+        ensures { AppliedPrinted self.now cells.old.now symbol out.old out.new cells.new.now }
+    {
+        out.put_prefixed(b's', u32::from(symbol));
+        let arity = signature::arity(self.symbols, usize::from(symbol));
+        if arity == 0 {
+            return;
+        }
+        out.put(b"(");
+        self.put_term(out, cells);
+        for _i in 1..arity {
+            out.put(b",");
+            self.put_term(out, cells);
+        }
+        out.put(b")");
     }
-    out.put(b"(");
-    put_term(out, cells, symbols, sign);
-    for _i in 1..arity {
-        out.put(b",");
-        put_term(out, cells, symbols, sign);
-    }
-    out.put(b")");
 }

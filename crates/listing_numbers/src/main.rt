@@ -1,8 +1,6 @@
 // Numbers at the borders of what the listing prints, one to a line.
 #![tactic(auto)]
 
-ghost use Rattle.std.specs.Prelude.{◌≤◌};
-
 use listing::output::Output;
 use std::io;
 
@@ -17,18 +15,11 @@ fn main(rt: HostRuntime) -> io::Result<()> {
     Ok(())
 }
 
+// A number has at most ten digits, so that its line fits the buffer.
 fn line(rt: &impl Print, n: u32) -> io::Result<()> {
     let mut buffer = [0u8; 11];
-    let end = digits(&mut buffer, n);
-    buffer[end] = b'\n';
-    rt.write_all(&buffer[..end + 1])
-}
-
-// A number has at most ten digits, so that its line fits the buffer.
-fn digits(buffer: &mut [u8; 11], n: u32) -> usize
-    ensures { result ≤ 10 }
-{
-    let mut out = Output::new(buffer);
+    let mut out = Output::new(&mut buffer);
     out.put_number(n);
-    out.at
+    out.put(b"\n");
+    rt.write_all(out.written())
 }

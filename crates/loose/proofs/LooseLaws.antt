@@ -23,7 +23,6 @@ use Rattle.deck.proofs.RefusalLaws.{number-positive}
 use Rattle.clauses.specs.Clauses.{ClauseAt}
 use Rattle.clauses.proofs.ClauseLaws.{clause-at}
 use Rattle.loose.specs.Marks.{row_tight, Below}
-use Rattle.loose.specs.Checks.{first_loose}
 
 -- ROWS
 few-small : (ls : List Literal) → InOrder (vars_literals ls) → length (write_literals ls) ≤ 1024 → All Small (vars_literals ls)
@@ -75,25 +74,25 @@ zeros (suc n) (suc v) = zeros n v
 pub blank-marks : (n : ℕ) → n ≡ 1024 → Below 1 (replicate n 0)
 blank-marks n e = record { size = length-replicate {A = ℕ} n 0 ∙ e; below = zeros n }
 
--- NUMBERS
-pub loose-clause : (clauses query : Bool) → clauses ≡ false → 13 ≡ checked_number (first_loose clauses query)
-unfolding first_loose and_then require
-loose-clause clauses query e = rw e
+-- NUMBERS of a deck and a query, test by test.
+module _ (d : Deck) (q : List Literal) (clauses query : Bool) (e : clauses ≡ tight_clauses d.clauses) (f : query ≡ tight_query q) where
+  pub loose-clause : clauses ≡ false → 13 ≡ checked_number (check_tight_query d q)
+  unfolding check_tight_query check_tight and_then require
+  loose-clause x = let c : tight_clauses d.clauses ≡ false = sym e ∙ x in rw c
 
-pub loose-query : (clauses query : Bool) → clauses ≡ true → query ≡ false → 14 ≡ checked_number (first_loose clauses query)
-unfolding first_loose and_then require
-loose-query clauses query e f = rw (e, f)
+  pub loose-query : clauses ≡ true → query ≡ false → 14 ≡ checked_number (check_tight_query d q)
+  unfolding check_tight_query check_tight and_then require
+  loose-query x y =
+      let c : tight_clauses d.clauses ≡ true = sym e ∙ x in
+      let t : tight_query q ≡ false = sym f ∙ y in
+      rw (c, t)
 
-pub none-loose : (clauses query : Bool) → clauses ≡ true → query ≡ true → 0 ≡ checked_number (first_loose clauses query)
-unfolding first_loose and_then require
-none-loose clauses query e f = rw (e, f)
-
--- What the two tests say of a deck and a query.
-pub query-number :
-    (d : Deck) (q : List Literal) (clauses query : Bool) → clauses ≡ tight_clauses d.clauses → query ≡ tight_query q
-    → checked_number (first_loose clauses query) ≡ checked_number (check_tight_query d q)
-unfolding check_tight_query check_tight first_loose
-query-number d q clauses query e f = rw (e, f)
+  pub none-loose : clauses ≡ true → query ≡ true → 0 ≡ checked_number (check_tight_query d q)
+  unfolding check_tight_query check_tight and_then require
+  none-loose x y =
+      let c : tight_clauses d.clauses ≡ true = sym e ∙ x in
+      let t : tight_query q ≡ true = sym f ∙ y in
+      rw (c, t)
 
 -- THE WHOLE CHECK: where the words are refused, the check is; where they are accepted, loose variables are left.
 pub record Read (ws qs : List ℕ) : Type 0 where

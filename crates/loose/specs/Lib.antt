@@ -1,3 +1,2 @@
--- What the code does in one walk over a row, and the order of its refusals.
+-- What the code does in one walk over a row.
 pub mod Marks
-pub mod Checks

@@ -33,7 +33,8 @@ fn waits(stamp: u16, mark: u16) -> usize
     usize::from(mark == stamp)
 }
 
-// The marks of earlier rows are below `stamp`, and those of this one below `stamp + 2`.
+// The marks of earlier rows are below `stamp`, and those of this one below `stamp + 2`: marks and no enum, as nothing is set back between rows.
+// Marks and stamp stay two: a struct's next stamp would still want a clause, since only the number of clauses says that there is one.
 pub fn tight(symbols: &[u16], cells: &[u16], marks: &mut [u16], stamp: u16) -> bool
     requires { Below stamp marks.old × (stamp < 65535) }
     ensures { (result ≡ row_tight (symbols_of symbols.now) cells.now) × Below (stamp + 2) marks.new }

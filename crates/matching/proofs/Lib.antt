@@ -7,4 +7,3 @@ pub mod OccursLaws
 pub mod BindLaws
 pub mod RanLaws
 pub mod WrittenLaws
-pub mod DifferLaws

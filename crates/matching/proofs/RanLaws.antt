@@ -118,9 +118,6 @@ module _ {ar cells bs trail : List ℕ} {n left : ℕ} where
   pub ran-by : {o o' : Unification} {bs' trail' marks' : List ℕ} {n' : ℕ} {r : Unified} → Ran ar cells bs trail n o left bs' trail' marks' n' r → o' ≡ o → Ran ar cells bs trail n o' left bs' trail' marks' n' r
   ran-by {bs' = bs'} {trail'} {marks'} {n'} {r} w e = subst (λ x. Ran ar cells bs trail n x left bs' trail' marks' n' r) (sym e) w
 
-  pub ran-answer : {o : Unification} {bs' trail' marks' : List ℕ} {n' : ℕ} {r r' : Unified} → Ran ar cells bs trail n o left bs' trail' marks' n' r → r ≡ r' → Ran ar cells bs trail n o left bs' trail' marks' n' r'
-  ran-answer {o} {bs'} {trail'} {marks'} {n'} w e = subst (λ x. Ran ar cells bs trail n o left bs' trail' marks' n' x) e w
-
   -- one equation and none after it
   pub ran-one : {o o' : Unification} {bs' trail' marks' : List ℕ} {n' : ℕ} {r : Unified} → Ran ar cells bs trail n o (suc (left - 1)) bs' trail' marks' n' r → (left ≡ 0 → ⊥) → o' ≡ o → Ran ar cells bs trail n o' left bs' trail' marks' n' r
   ran-one {o} {bs' = bs'} {trail'} {marks'} {n'} {r} w z e =
@@ -226,7 +223,3 @@ is-told o left es (Err Broken) w = w
 pub ran-ended : {ar cells bs trail : List ℕ} (p q k : ℕ) {left : ℕ} {bs' trail' marks' : List ℕ} {n' : ℕ} {r : Unified} → Ran ar cells bs trail 0 (unify (seen ar cells bs trail 0 p k) (seen ar cells bs trail 0 q k)) left bs' trail' marks' n' r → Ended ar cells (unify (take_t k (from ar cells p)) (take_t k (from ar cells q))) left bs' trail' marks' n' r
 unfolding elims_after
 ran-ended {ar} {cells} p q k {left} {bs'} {trail'} {n' = n'} {r = r} w = record { good = w.state.good; trailed = state-trailed w.state; is = is-told _ left (elims ar cells bs' trail' n') r w.tells }
-
--- for a `match` on the outcome
-pub ended-answer : {ar cells bs trail marks : List ℕ} {o : Unification} {left n : ℕ} {r r' : Unified} → Ended ar cells o left bs trail marks n r → r ≡ r' → Ended ar cells o left bs trail marks n r'
-ended-answer {ar} {cells} {bs} {trail} {marks} {o} {left} {n} w e = subst (Ended ar cells o left bs trail marks n) e w

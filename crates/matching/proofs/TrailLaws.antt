@@ -2,11 +2,12 @@
 use mathlib.Core.Path.{◌≡◌, refl, sym, ◌∙◌}
 use mathlib.Core.Logic.{◌≢◌}
 use mathlib.Core.List.{List, [], ◌∷◌, ◌++◌}
-use Prim.Native.Nat.{ℕ, zero, suc, ◌+◌, ◌-◌, ◌≤◌, ◌<◌}
+use Prim.Native.Nat.{ℕ, zero, suc, ◌+◌, ◌≤◌, ◌<◌}
 use native.Mathlib.Decide.{ℕ_discrete}
 use native.Mathlib.Omega.{arith}
 use lib.ListN.{length, get_or, take, set, length-set, length-append}
-use lib.Seq.{take-suc, get_or-set_same, get_or-set_other}
+use lib.Seq.{take-suc, take-length, take-append_seam, get_or-set_same, get_or-set_other}
+use Rattle.std.proofs.lemmas.List.{get_or_push, get_or-take, length-take-le}
 use Rattle.rules.proofs.TermLaws.{ite-yes, ite-no}
 use Rattle.matching.specs.Bindings.{later, Blank, Trailed}
 
@@ -93,15 +94,30 @@ module _ {bs trail marks : List ℕ} (i : ℕ) (t : Trailed bs trail marks (suc 
     bound = bound';
   }
 
-module _ {bs trail marks : List ℕ} where
-  pub trailed-inside : {left : ℕ} → Trailed bs trail marks left → 0 < left → get_or trail (left - 1) 0 < length bs
-  trailed-inside {left} t h = t.listed (left - 1) (omega arith)
+module _ {bs marks : List ℕ} where
+  -- no more of the trail than is bound
+  pub trailed-taken : {trail : List ℕ} {n : ℕ} → Trailed bs trail marks n → Trailed bs (take n trail) marks (length (take n trail))
+  trailed-taken {trail} {n} t =
+      let e : length (take n trail) ≡ n = length-take-le n trail t.within in
+      record {
+        within = omega arith;
+        wide = t.wide;
+        listed = λ i l. rw (get_or-take n trail i 0 (omega (arith, e))) (t.listed i (omega (arith, e)));
+        taken = λ v l h. rw take-length (t.taken v l h);
+        bound = t.bound;
+      }
 
-  pub trailed-less : {left : ℕ} → Trailed bs trail marks left → 0 < left → Trailed (set bs (get_or trail (left - 1) 0) 65535) trail (set marks (get_or trail (left - 1) 0) 0) (left - 1)
-  trailed-less {left = zero} t h = absurd (omega arith)
-  trailed-less {left = suc i} t h = let e : suc i - 1 ≡ i = omega arith in rw e (trailed-last i t)
+module _ {bs marks : List ℕ} where
+  -- without the last
+  pub trailed-popped : (xs : List ℕ) (y : ℕ) → Trailed bs (xs ++ (y ∷ [])) marks (length (xs ++ (y ∷ []))) → Trailed (set bs y 65535) xs (set marks y 0) (length xs)
+  trailed-popped xs y t =
+      let e : length (xs ++ (y ∷ [])) ≡ suc (length xs) = omega (arith, length-append xs (y ∷ [])) in
+      let last : Trailed (set bs (get_or (xs ++ (y ∷ [])) (length xs) 0) 65535) (xs ++ (y ∷ [])) (set marks (get_or (xs ++ (y ∷ [])) (length xs) 0) 0) (length xs) = trailed-last (length xs) (rw e at t) in
+      let popped : Trailed (set bs y 65535) (xs ++ (y ∷ [])) (set marks y 0) (length xs) = rw (get_or_push xs y 0 (length xs) refl) at last in
+      let front : Trailed (set bs y 65535) (take (length xs) (xs ++ (y ∷ []))) (set marks y 0) (length (take (length xs) (xs ++ (y ∷ [])))) = trailed-taken popped in
+      rw take-append_seam at front
 
-  pub trailed-none : {left : ℕ} → Trailed bs trail marks left → left ≤ 0 → Blank bs marks
+  pub trailed-none : {trail : List ℕ} {left : ℕ} → Trailed bs trail marks left → left ≡ 0 → Blank bs marks
   trailed-none {left = suc i} t h = absurd (omega arith)
   trailed-none {left = zero} t h = record { free = free'; unmarked = unmarked' }
     where

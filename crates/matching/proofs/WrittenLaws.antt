@@ -7,19 +7,11 @@ use lib.ListN.{length, get_or, length-append}
 use Rattle.rules.specs.Terms.{Term, Terms, var, app, nil, cons, size, sizes, ◌+++◌, count}
 use Rattle.rules.specs.Cells.{write_term, write_terms}
 use Rattle.signature.specs.Symbols.{symbol_count}
-use Rattle.matching.specs.Taking.{take_t, drop_t}
+use Rattle.matching.specs.Taking.{take_t, drop_t, take-join, drop-join}
 use Rattle.matching.specs.Cells.{args_of, made, reads, from, Formed}
 use Rattle.matching.specs.Written.{write, writes, Fit, Fits}
 use Rattle.rules.proofs.TermLaws.{count-join}
 use Rattle.matching.proofs.CellLaws.{args-functor, args-var, made-functor, made-var}
-
-take-join : (ts us : Terms) → take_t (count ts) (ts +++ us) ≡ ts
-take-join nil us = refl
-take-join (cons t ts) us = ap (cons t) (take-join ts us)
-
-drop-join : (ts us : Terms) → drop_t (count ts) (ts +++ us) ≡ us
-drop-join nil us = refl
-drop-join (cons t ts) us = drop-join ts us
 
 reads-cell : (ar : List ℕ) (c : ℕ) (cs : List ℕ) → reads ar (c ∷ cs) ≡ cons (made c (take_t (args_of ar c) (reads ar cs))) (drop_t (args_of ar c) (reads ar cs))
 unfolding reads

@@ -4,7 +4,7 @@ use Rattle.std.specs.Prelude.{ℕ, zero, suc, ◌≡◌, List, [], ◌∷◌}
 use Rattle.std.specs.Coded.{Coded, code_by, coded×, coded_ℕ, coded_list}
 use Rattle.std.proofs.Common.{refl, ap, ◌∙◌}
 use Rattle.rules.specs.Terms.{Term, Terms, var, app, nil, cons, ◌+++◌, count}
-use Rattle.matching.specs.Taking.{take_t, drop_t, head_t}
+use Rattle.matching.specs.Taking.{take_t, drop_t, head_t, take-join, drop-join}
 
 abbrev mutual
   pub code_after : Term → List (ℕ × ℕ) → List (ℕ × ℕ)
@@ -22,14 +22,6 @@ decoded_one (suc n) f ts = cons (app f (take_t n ts)) (drop_t n ts)
 abbrev pub decoded : List (ℕ × ℕ) → Terms
 decoded [] = nil
 decoded (c ∷ cs) = decoded_one c.0 c.1 (decoded cs)
-
-take-join : (ts us : Terms) → take_t (count ts) (ts +++ us) ≡ ts
-take-join nil us = refl
-take-join (cons t ts) us = ap (cons t) (take-join ts us)
-
-drop-join : (ts us : Terms) → drop_t (count ts) (ts +++ us) ≡ us
-drop-join nil us = refl
-drop-join (cons t ts) us = drop-join ts us
 
 mutual
   pub decoded-code : (t : Term) (rest : List (ℕ × ℕ)) → decoded (code_after t rest) ≡ cons t (decoded rest)

@@ -1,11 +1,17 @@
 // Terms as cells in prefix notation.
-ghost use Rattle.std.specs.Prelude.{◌≡◌, true, ◌%◌, ◌≤◌, ◌<◌, length};
+ghost use Rattle.std.specs.Prelude.{◌≡◌, ◌%◌, ◌≤◌, ◌<◌, length, get_or};
 ghost use Rattle.rules.specs.Terms.{count};
 ghost use Rattle.signature.specs.Symbols.{symbol_count};
 ghost use Rattle.matching.specs.Taking.{drop_t};
 ghost use Rattle.matching.specs.Cells.{args_of, from, Formed, Skipped, Next};
 
-// Cells that are terms, one after another, over the deck's symbol words.
+// The deck's format: cells below NEGATED are symbols, those from there on negated predicates, and those from VARIABLE on variables.
+pub const NEGATED: u16 = 16384;
+
+pub const VARIABLE: u16 = 32768;
+
+// Cells that are terms, one after another, over the deck's symbol words. That so many terms stand at a place is a clause of five functions: a
+// type for it would hold the terms, the place and the number, and be made at each step.
 #[derive(Clone, Copy)]
 pub struct FlatTerms<'a> {
     pub cells: &'a [u16],
@@ -14,6 +20,14 @@ pub struct FlatTerms<'a> {
 }
 
 impl FlatTerms<'_> {
+    // How many arguments the cell at p has.
+    pub fn arity(&self, p: usize) -> usize
+        requires { p < length self.now.cells.now }
+        ensures { result ≡ args_of self.now.symbols.now (get_or self.now.cells.now p 0) }
+    {
+        arity_of(self.symbols, usize::from(self.cells[p]))
+    }
+
     // The place after the `number` terms at p.
     fn skip_terms(&self, p: usize, number: usize) -> usize
         requires { (p ≤ length self.now.cells.now) × (number ≤ count (from self.now.symbols.now self.now.cells.now p)) }
@@ -22,8 +36,8 @@ impl FlatTerms<'_> {
         if number == 0 {
             return p;
         }
-        let c = self.cells[p] as usize;
-        let next = self.skip_terms(p + 1, arity_of(self.symbols, c));
+        let arity = self.arity(p);
+        let next = self.skip_terms(p + 1, arity);
         self.skip_terms(next, number - 1)
     }
 
@@ -49,16 +63,9 @@ pub fn arity_of(symbols: &[u16], c: usize) -> usize
     requires { c < 32768 → c % 16384 < symbol_count symbols.now }
     ensures { result ≡ args_of symbols.now c }
 {
-    if c < 32768 {
-        signature::arity(symbols, c % 16384)
+    if c < usize::from(VARIABLE) {
+        signature::arity(symbols, c % usize::from(NEGATED))
     } else {
         0
     }
-}
-
-// Whether two cells are different symbols. Terms that start with them do not unify.
-pub fn differ(c: u16, d: u16) -> bool
-    ensures { result ≡ true → (c < 32768) × (d < 32768) × (c ≡ d → ⊥) }
-{
-    c < 32768 && d < 32768 && c != d
 }

@@ -9,31 +9,31 @@ ghost use Rattle.matching.specs.Bindings.{value, seen, Checking, Occurs, stamped
 ghost use Rattle.matching.specs.Tables.{Same};
 
 use super::bindings::{Bound, Table};
-use super::cells::{FlatTerms, arity_of};
+use super::cells::{FlatTerms, VARIABLE};
 
 // Whether the cell is a variable whose mark is the stamp.
 fn marked(table: &Table, stamp: usize, cell: u16) -> bool
     requires { 32768 ≤ cell → cell - 32768 < length table.now.marks }
     ensures { result ≡ true → (32768 ≤ cell) × (get_or table.now.marks (cell - 32768) 0 ≡ stamp) }
 {
-    32768 <= cell && table.marks[(cell - 32768) as usize] as usize == stamp
+    VARIABLE <= cell && usize::from(table.marks[usize::from(cell - VARIABLE)]) == stamp
 }
 
-// Marks the cell's variable, if it is one.
+// Marks the cell's variable, if it is one. The stamp fits, so `try_from` would give an error that cannot come.
 fn mark(table: &mut Table, stamp: usize, cell: u16)
     requires variable_in_bounds { 32768 ≤ cell → cell - 32768 < length table.old.marks }
     requires stamp_bound { stamp < 65536 }
     ensures table_after { table.new.marks ≡ stamped table.old.marks stamp cell }
     ensures bindings_kept { Same table.old table.new }
 {
-    if 32768 <= cell {
-        table.marks[(cell - 32768) as usize] = stamp as u16;
+    if VARIABLE <= cell {
+        table.marks[usize::from(cell - VARIABLE)] = stamp as u16;
     }
 }
 
 // Whether the variable v occurs in the term at p.
 #[cycle(occurs_occurs_any)]
-pub fn occurs(terms: &FlatTerms, table: &mut Table, v: usize, p: usize) -> bool
+pub fn occurs(terms: &FlatTerms, table: &mut Table, v: u16, p: usize) -> bool
     requires checking { Checking terms.now.symbols.now terms.now.cells.now table.old.bind table.old.trail table.old.bound v table.old.marks }
     requires p_in_bounds { p < length terms.now.cells.now }
     ensures occurs { Occurs (occ v (value terms.now.symbols.now terms.now.cells.now table.old.bind table.old.trail table.old.bound p)) result }
@@ -45,15 +45,15 @@ pub fn occurs(terms: &FlatTerms, table: &mut Table, v: usize, p: usize) -> bool
         table,
     };
     let at = bound.resolve(p);
-    let c = terms.cells[at] as usize;
-    if 32768 <= c {
-        return c - 32768 == v;
+    let c = terms.cells[at];
+    if VARIABLE <= c {
+        return c - VARIABLE == v;
     }
     let stamp = table.bound + 1;
     if marked(table, stamp, terms.cells[p]) {
         return false;
     }
-    let arity = arity_of(terms.symbols, c);
+    let arity = terms.arity(at);
     if occurs_any(terms, table, v, at + 1, arity) {
         return true;
     }
@@ -63,7 +63,7 @@ pub fn occurs(terms: &FlatTerms, table: &mut Table, v: usize, p: usize) -> bool
 
 // Whether the variable v occurs in one of the `number` terms at p.
 #[cycle(occurs_occurs_any)]
-fn occurs_any(terms: &FlatTerms, table: &mut Table, v: usize, p: usize, number: usize) -> bool
+fn occurs_any(terms: &FlatTerms, table: &mut Table, v: u16, p: usize, number: usize) -> bool
     requires checking { Checking terms.now.symbols.now terms.now.cells.now table.old.bind table.old.trail table.old.bound v table.old.marks }
     requires number_bound { number ≤ count (from terms.now.symbols.now terms.now.cells.now p) }
     ensures occurs { Occurs (occs v (seen terms.now.symbols.now terms.now.cells.now table.old.bind table.old.trail table.old.bound p number)) result }

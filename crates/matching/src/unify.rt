@@ -1,6 +1,7 @@
 // Unification, which document 01 calls matching: equations between terms, from left to right. The
 // recursion goes down and along arguments, so its depth is at most twice the number of cells. Each
-// equation takes 1 from what is left, and where nothing is left the unification is broken off.
+// equation takes 1 from what is left, and where nothing is left the unification is broken off. The terms and the table stay two
+// parameters: lent as `&mut`, a struct of both would have to promise in each contract that the terms and the table's reference stay.
 ghost use Rattle.std.specs.Prelude.{◌≡◌, ◌≤◌, length};
 ghost use Rattle.rules.specs.Terms.{count};
 ghost use Rattle.rules.specs.Unification.{unify};
@@ -10,7 +11,7 @@ ghost use Rattle.matching.specs.Bindings.{State, Paired, Free, Final, Ready, Bla
 ghost use Rattle.matching.specs.Outcomes.{RanVariable, RanPair, RanPairs, Ended};
 
 use super::bindings::{Bound, Table};
-use super::cells::{FlatTerms, arity_of};
+use super::cells::{FlatTerms, VARIABLE};
 use super::occurs::occurs;
 
 // Why terms are not unified: they differ, with what is left after the equations, the failing one included. Or the unification was broken
@@ -21,12 +22,13 @@ pub enum Failure {
     Broken,
 }
 
-// The equation between the free variable v and the term at p, which is not that variable. `rest` is left after it.
+// The equation between the free variable v and the term at p, which is not that variable. `rest` is left after it. The place
+// fits, so `try_from` would give an error that cannot come.
 fn eliminate(
     terms: &FlatTerms,
     table: &mut Table,
     rest: u32,
-    v: usize,
+    v: u16,
     p: usize,
 ) -> Result<u32, Failure>
     requires state { State terms.now.symbols.now terms.now.cells.now table.old.bind table.old.trail table.old.marks table.old.bound table.old.bound }
@@ -38,8 +40,8 @@ fn eliminate(
     if found {
         return Err(Failure::Failed(rest));
     }
-    table.bind[v] = p as u16;
-    table.trail[table.bound] = v as u16;
+    table.bind[usize::from(v)] = p as u16;
+    table.trail[table.bound] = v;
     table.bound += 1;
     Ok(rest)
 }
@@ -54,21 +56,21 @@ fn pair(terms: &FlatTerms, table: &mut Table, left: u32, a: usize, b: usize) -> 
         return Err(Failure::Broken);
     }
     let rest = left - 1;
-    let c = terms.cells[a] as usize;
-    let d = terms.cells[b] as usize;
-    if c >= 32768 {
+    let c = terms.cells[a];
+    let d = terms.cells[b];
+    if VARIABLE <= c {
         if c == d {
             return Ok(rest);
         }
-        return eliminate(terms, table, rest, c - 32768, b);
+        return eliminate(terms, table, rest, c - VARIABLE, b);
     }
-    if d >= 32768 {
-        return eliminate(terms, table, rest, d - 32768, a);
+    if VARIABLE <= d {
+        return eliminate(terms, table, rest, d - VARIABLE, a);
     }
     if c != d {
         return Err(Failure::Failed(rest));
     }
-    let arity = arity_of(terms.symbols, c);
+    let arity = terms.arity(a);
     pairs(terms, table, rest, a + 1, b + 1, arity)
 }
 
@@ -114,10 +116,10 @@ pub fn unify_terms(
 ) -> Result<u32, Failure>
     requires ready { Ready terms.now.symbols.now terms.now.cells.now (length table.old.bind) (length table.old.trail) (length table.old.marks) }
     requires blank { Blank table.old.bind table.old.marks }
-    requires empty { table.old.bound ≡ 0 }
     requires left_bound { number ≤ count (from terms.now.symbols.now terms.now.cells.now p) }
     requires right_bound { number ≤ count (from terms.now.symbols.now terms.now.cells.now q) }
     ensures { Ended terms.now.symbols.now terms.now.cells.now (unify (take_t number (from terms.now.symbols.now terms.now.cells.now p)) (take_t number (from terms.now.symbols.now terms.now.cells.now q))) left table.new.bind table.new.trail table.new.marks table.new.bound result }
 {
+    table.bound = 0;
     pairs(terms, table, left, p, q, number)
 }

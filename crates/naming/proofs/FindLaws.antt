@@ -68,7 +68,7 @@ module _ (ds : List Declaration) (name : ℕ → List ℕ) (e : declared_twice d
       let s = some-injective i j (sym (of_number i (omega arith)) ∙ ap (λ w. number_of w 0 ds) q ∙ of_number j m) in omega arith
 
 -- For callers of `find`: its answer for a name is the number of the rules.
-module _ (t : Table) (D : Declared t) (w : List ℕ) (r : Code ℕ) (found : r ≡ found_at (last_with (is_name w) (name_at t) (length t.entries))) where
+module _ (t : Table ℕ) (D : Declared t) (w : List ℕ) (r : Code ℕ) (found : r ≡ found_at (last_with (is_name w) (name_at t) (length t.entries))) where
   abbrev last : ℕ
   last = last_with (is_name w) (name_at t) (length t.entries)
 

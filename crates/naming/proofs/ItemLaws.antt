@@ -1,14 +1,19 @@
 -- One declaration of a readable text, at a place.
-use Rattle.std.proofs.Common.{◌≡◌, ℕ, zero, suc, ◌-◌, ◌<◌, Bool, true, false, ◌&&◌, ◌||◌, List, [], ◌∷◌, length, get_or, take, drop, eqb, refl, ap, ap₂, sym, ◌∙◌, arith, drop-cons}
+use Rattle.std.proofs.Common.{◌≡◌, ℕ, ◌-◌, ◌<◌, true, false, ◌&&◌, ◌||◌, List, ◌∷◌, length, drop, eqb, refl, ap, ap₂, sym, ◌∙◌, arith}
 use Rattle.std.proofs.Math.Option.{none}
-use mathlib.Core.Bool.{not, and-eq-true_iff}
-use borrow.Author.Tests.{ne_eqb, eqb-true}
+use mathlib.Core.Bool.{and-eq-true_iff}
+use borrow.Author.Tests.{eqb-true}
 use Rattle.text_rules.specs.TextTokens.{Kind, name, number, slash, dot, kind_number, value, Token, tokens}
 use Rattle.text_rules.specs.TextGrammar.{same_kind, is, is_key, same_bytes, fn_text, pr_text, item, declared, slashed, counted, unread}
 use Rattle.text_rules.specs.TextWords.{symbol_from, token_at, declares, declaration, declarations, clause_tokens}
 use Rattle.text.specs.declared.tokens.Token as code
 use Rattle.text.specs.declared.tokens.Kind.{Kind as Code}
 use Rattle.text.specs.declared.tokens.Kind.TheVariants.{Ending, Name, Number}
+use Rattle.std.specs.Prelude.{Some}
+use Rattle.text.specs.declared.grammar.Key.{Key}
+use Rattle.text.specs.declared.grammar.Key.TheVariants.{Function, Predicate}
+use Rattle.text.specs.Steps.{IsKey}
+use Rattle.text.proofs.GrammarLaws.{key_tested}
 use Rattle.text.specs.Kinds.{kind_of}
 use Rattle.text.specs.Scan.{tokens_from, Next}
 use Rattle.text.proofs.TokenLaws.{not-ending}
@@ -18,35 +23,10 @@ use Rattle.naming.specs.Walks.{symbol_of, declaration_of, Declares, Ends}
 use Rattle.naming.proofs.FiveLaws.{declared-none, clauses-here, after-key, after-name, after-declared, after-slash, after-arity, five-declared, five-passed}
 use Rattle.naming.proofs.ArityLaws.{number_small}
 
--- The bytes of `fn` and `pr` differ in the first.
-key-first : (t : Token) (b : ℕ) (bs : List ℕ) → t.bytes ≡ b ∷ bs → is_key t ≡ true → same_bytes t.bytes fn_text ≡ eqb b 102
-unfolding is_key same_bytes fn_text pr_text
-key-first t b bs e k =
-    let both = ((and-eq-true_iff (is name t) (same_bytes t.bytes fn_text || same_bytes t.bytes pr_text)).0 k).1 in
-    let q : (same_bytes (b ∷ bs) fn_text || same_bytes (b ∷ bs) pr_text) ≡ true = ap (λ x. same_bytes x fn_text || same_bytes x pr_text) (sym e) ∙ both in
-    ap (λ x. same_bytes x fn_text) e ∙ go (eqb b 102) refl q
-  where
-    go : (f : Bool) → eqb b 102 ≡ f → (same_bytes (b ∷ bs) fn_text || same_bytes (b ∷ bs) pr_text) ≡ true → same_bytes (b ∷ bs) fn_text ≡ eqb b 102
-    go true f q =
-        let z : eqb b 112 ≡ false = ne_eqb b 112 (λ w. omega (arith, eqb-true b 102 f)) in
-        let y : (same_bytes bs (110 ∷ []) || false) ≡ true = rw (f, z) at q in
-        rw f (or_no (same_bytes bs (110 ∷ [])) y)
-      where
-        or_no : (x : Bool) → (x || false) ≡ true → x ≡ true
-        or_no true e = refl
-        or_no false e = e
-    go false f q = rw f refl
-
-key-symbol : (key : List ℕ) (k : ℕ) (b : Bool) → same_bytes key fn_text ≡ b → symbol_from key k ≡ symbol_of (not b) k
+key-symbol : (t : Token) (w : Key) (k : ℕ) → IsKey t (Some w) → symbol_from t.bytes k ≡ symbol_of w k
 unfolding symbol_from
-key-symbol key k true e = rw (e, symbol_from)
-key-symbol key k false e = rw (e, symbol_from)
-
--- A token's bytes by the first.
-first_taken : (text : List ℕ) (from n : ℕ) → from < length text → 0 < n → take n (drop from text) ≡ get_or text from 0 ∷ take (n - 1) (drop (suc from) text)
-first_taken text from zero h l = absurd (omega arith)
-first_taken text from (suc n) h l =
-    let e : n ≡ suc n - 1 = omega arith in ap (take (suc n)) (drop-cons text from 0 h) ∙ ap (λ k. get_or text from 0 ∷ take k (drop (suc from) text)) e
+key-symbol t Function k e = rw (e.1, symbol_from)
+key-symbol t Predicate k e = rw (e.1, symbol_from)
 
 -- A kind of token, by the code's.
 number-kind : (x : Code) → same_kind number (kind_of x) ≡ true → ((m : ℕ) → x ≡ Number m → ⊥) → ⊥
@@ -91,7 +71,10 @@ module _ (text : List ℕ) (at : ℕ) (r : code.Token) (n : Next text at r) wher
 
 -- A declaration.
 module _ (text : List ℕ) (at : ℕ) (k n s a : code.Token) (K : Next text at k) (N : Next text k.to n) (S : Next text n.to s) (A : Next text s.to a)
-    (readable : unread item (tokens 0 (drop at text)) ≡ none) (key : is_key (token_of text k) ≡ true) (named : n.kind ≡ Name) where
+    (readable : unread item (tokens 0 (drop at text)) ≡ none) (w : Key) (is-w : IsKey (token_of text k) (Some w)) (named : n.kind ≡ Name) where
+  key : is_key (token_of text k) ≡ true
+  key = key_tested (token_of text k) (Some w) is-w
+
   abbrev tk : Token
   tk = token_of text k
 
@@ -160,17 +143,11 @@ module _ (text : List ℕ) (at : ℕ) (k n s a : code.Token) (K : Next text at k
     arity-value : arity ≡ value 0 ta.bytes
     arity-value = A.number arity is_arity
 
-    the-symbol : symbol_from tk.bytes (value 0 ta.bytes) ≡ symbol_of (not (eqb (get_or text k.from 0) 102)) arity
-    the-symbol =
-        let in_text : k.from < length text = omega (arith, key-inside, K.inside) in
-        let some : 0 < k.to - k.from = omega (arith, key-inside) in
-        let first = first_taken text k.from (k.to - k.from) in_text some in
-        key-symbol tk.bytes (value 0 ta.bytes) (eqb (get_or text k.from 0) 102)
-        (key-first tk (get_or text k.from 0) (take (k.to - k.from - 1) (drop (suc k.from) text)) first key)
-        ∙ ap (symbol_of (not (eqb (get_or text k.from 0) 102))) (sym arity-value)
+    the-symbol : symbol_from tk.bytes (value 0 ta.bytes) ≡ symbol_of w arity
+    the-symbol = key-symbol tk w (value 0 ta.bytes) is-w ∙ ap (symbol_of w) (sym arity-value)
 
     abbrev this : Declaration
-    this = record { from = n.from; to = n.to; predicate = not (eqb (get_or text k.from 0) 102); arity = arity; end = d.to }
+    this = record { from = n.from; to = n.to; key = w; arity = arity; end = d.to }
 
     same-declaration : declaration tk (tn ∷ ts ∷ ta ∷ td ∷ tokens 0 (drop d.to text)) ≡ declaration_of text this
     unfolding declaration

@@ -13,8 +13,8 @@ use Rattle.text_rules.specs.TextWords as rules
 use Rattle.text_rules.specs.Text.{text_declarations, place_of}
 use Rattle.text.specs.declared.names.Entry.{Entry}
 use Rattle.text.specs.Hash.{last_with, found_at, is_name}
-use Rattle.text.specs.Names.{Table, entry_at, name_at, entered}
-use Rattle.text.proofs.NameLaws.{last-ext, found_none, found_some, entered-old, entered-new}
+use Rattle.text.specs.Names.{Table, no_entry, entry_at, name_at, entered}
+use Rattle.text.proofs.NameLaws.{last-ext, found_none, found_some, entered-old, entered-new, old-name_at, new-name_at}
 use Rattle.text.proofs.NumberLaws.{Names, Distinct, declared-once, declared-again, still-distinct}
 use Rattle.naming.specs.declared.declarations.Declaration.{Declaration}
 use Rattle.naming.specs.Table.{Declared}
@@ -24,7 +24,7 @@ use Rattle.naming.proofs.WalkLaws.{passed_none, passed-below, passed-this, passe
 use Rattle.naming.proofs.FindLaws.{is_below, is-there, names_of}
 
 -- The declarations up to a place are in the table; their names differ.
-pub record Filled (t : Table) (at : ℕ) : Type 0 where
+pub record Filled (t : Table ℕ) (at : ℕ) : Type 0 where
   pub passed : Passed t.text at (length t.entries)
   pub names : (j : ℕ) (d : rules.Declaration) → j < length t.entries → get_elem? (text_declarations t.text) j ≡ some d → name_at t j ≡ d.name
   pub symbol : (j : ℕ) (d : rules.Declaration) → j < length t.entries → get_elem? (text_declarations t.text) j ≡ some d → (entry_at t j).value ≡ write_symbol d.symbol
@@ -33,7 +33,7 @@ pub record Filled (t : Table) (at : ℕ) : Type 0 where
       declared_twice (text_declarations t.text) 0 (text_declarations t.text)
       ≡ declared_twice (text_declarations t.text) (length t.entries) (drop (length t.entries) (text_declarations t.text))
 
-pub none_filled : (t : Table) → t.entries ≡ [] → unread item (tokens 0 t.text) ≡ none → Filled t 0
+pub none_filled : (t : Table ℕ) → t.entries ≡ [] → unread item (tokens 0 t.text) ≡ none → Filled t 0
 none_filled t z e =
     let n : length t.entries ≡ 0 = ap length z in
     record {
@@ -44,7 +44,7 @@ none_filled t z e =
       once = ap (λ k. declared_twice (text_declarations t.text) k (drop k (text_declarations t.text))) (sym n);
     }
 
-module _ (t : Table) (at : ℕ) (f : Filled t at) where
+module _ (t : Table ℕ) (at : ℕ) (f : Filled t at) where
   abbrev ds : List rules.Declaration
   ds = text_declarations t.text
 
@@ -93,7 +93,7 @@ module _ (t : Table) (at : ℕ) (f : Filled t at) where
           ∙ declared-again ds (name_of ds) all-names n below f.distinct (λ z. omega (arith, same-last)))
 
       -- The declaration entered.
-      module _ (z : r ≡ None) (x : Entry) (same_from : x.from ≡ d.from) (same_to : x.to ≡ d.to) (is_word : x.value ≡ write_symbol (symbol_of d.predicate d.arity)) where
+      module _ (z : r ≡ None) (x : Entry ℕ) (same_from : x.from ≡ d.from) (same_to : x.to ≡ d.to) (is_word : x.value ≡ write_symbol (symbol_of d.key d.arity)) where
         not-found : last_with (is_name (name_of ds n)) (name_of ds) n ≡ 0
         not-found = same-last ∙ found_none (last_with (is_name this) (name_at t) n) (sym z ∙ e)
 
@@ -108,16 +108,17 @@ module _ (t : Table) (at : ℕ) (f : Filled t at) where
         last-is j y e q = some-injective (declaration_of t.text d) y (sym there ∙ ap (get_elem? ds) (sym e) ∙ q)
 
         new-name : (j : ℕ) (y : rules.Declaration) → (j < n) ⊎ (j ≡ n) → get_elem? ds j ≡ some y → name_at (entered t x) j ≡ y.name
-        new-name j y (inl l) q = ap (λ (u : Entry). slice_range t.text u.from u.to) (entered-old t x j l) ∙ f.names j y l q
+        new-name j y (inl l) q = old-name_at t x j l ∙ f.names j y l q
         new-name j y (inr e) q =
-            ap (λ (u : Entry). slice_range t.text u.from u.to) (ap (entry_at (entered t x)) e ∙ entered-new t x)
+            ap (name_at (entered t x)) e
+            ∙ new-name_at t x
             ∙ ap₂ (slice_range t.text) same_from same_to
             ∙ ap (λ (u : rules.Declaration). u.name) (last-is j y e q)
 
         new-symbol : (j : ℕ) (y : rules.Declaration) → (j < n) ⊎ (j ≡ n) → get_elem? ds j ≡ some y → (entry_at (entered t x) j).value ≡ write_symbol y.symbol
-        new-symbol j y (inl l) q = ap (λ (u : Entry). u.value) (entered-old t x j l) ∙ f.symbol j y l q
+        new-symbol j y (inl l) q = ap (λ (u : Entry ℕ). u.value) (entered-old t x no_entry j l) ∙ f.symbol j y l q
         new-symbol j y (inr e) q =
-            ap (λ (u : Entry). u.value) (ap (entry_at (entered t x)) e ∙ entered-new t x) ∙ is_word ∙ ap (λ (u : rules.Declaration). write_symbol u.symbol) (last-is j y e q)
+            ap (λ (u : Entry ℕ). u.value) (ap (entry_at (entered t x)) e ∙ entered-new t x no_entry) ∙ is_word ∙ ap (λ (u : rules.Declaration). write_symbol u.symbol) (last-is j y e q)
 
         pub filled-one : Filled (entered t x) d.end
         filled-one =

@@ -17,18 +17,18 @@ use Rattle.naming.proofs.FindLaws.{is-there, find_none, find-some, find-below}
 
 -- The symbols' words.
 words-taken :
-    (xs : List Declaration) (es : List Entry) → length xs ≡ length es → ((j : ℕ) (d : Declaration) → get_elem? xs j ≡ some d → (get_or es j no_entry).value ≡ write_symbol d.symbol)
+    (xs : List Declaration) (es : List (Entry ℕ)) → length xs ≡ length es → ((j : ℕ) (d : Declaration) → get_elem? xs j ≡ some d → (get_or es j no_entry).value ≡ write_symbol d.symbol)
     → map (λ d. write_symbol d.symbol) xs ≡ map (λ e. e.value) es
 words-taken [] [] l h = refl
 words-taken [] (e ∷ es) l h = absurd (omega arith)
 words-taken (x ∷ xs) [] l h = absurd (omega arith)
 words-taken (x ∷ xs) (e ∷ es) l h = ap₂ ◌∷◌ (sym (h 0 x refl)) (words-taken xs es (omega arith) (λ j d q. h (suc j) d q))
 
-pub symbol-words : (t : Table) → Declared t → map (λ d. write_symbol d.symbol) (text_declarations t.text) ≡ map (λ e. e.value) t.entries
+pub symbol-words : (t : Table ℕ) → Declared t → map (λ d. write_symbol d.symbol) (text_declarations t.text) ≡ map (λ e. e.value) t.entries
 symbol-words t D = words-taken (text_declarations t.text) t.entries D.count D.symbol
 
 -- Uses, by what is found in the table.
-module _ (t : Table) (D : Declared t) (u : Use) (r : Code ℕ) (found : r ≡ found_at (last_with (is_name u.name) (name_at t) (length t.entries))) where
+module _ (t : Table ℕ) (D : Declared t) (u : Use) (r : Code ℕ) (found : r ≡ found_at (last_with (is_name u.name) (name_at t) (length t.entries))) where
   pub found_none : r ≡ None → well_used (text_declarations t.text) u ≡ false
   unfolding well_used declared_at has_arity
   found_none e = ap (λ o. has_arity (declared_at (text_declarations t.text) o) u.arguments) (find_none t D u.name r found e)

@@ -1,5 +1,5 @@
 -- Walking over the declarations.
-use Rattle.std.proofs.Common.{◌≡◌, ℕ, zero, suc, ◌+◌, ◌-◌, ◌<◌, true, false, List, [], ◌∷◌, length, drop, refl, ap, ap₂, sym, ◌∙◌, subst, arith, add-one, length-drop}
+use Rattle.std.proofs.Common.{◌≡◌, ℕ, zero, suc, ◌+◌, ◌-◌, ◌≤◌, ◌<◌, true, false, List, [], ◌∷◌, length, drop, refl, ap, ap₂, sym, ◌∙◌, arith, add-one, length-drop}
 use Rattle.std.proofs.Math.Option.{none, some}
 use Rattle.std.proofs.Math.ListN.{get_elem?}
 use Rattle.std.specs.List.{slice_range}
@@ -11,7 +11,13 @@ use Rattle.text_rules.specs.Text.{text_declarations, place_of}
 use Rattle.naming.specs.declared.declarations.Declaration.{Declaration}
 use Rattle.text.specs.Hash.{last_with, found_at, is_name}
 use Rattle.text.specs.Names.{Table, name_at}
-use Rattle.std.specs.Prelude.{Option as Code}
+use Rattle.std.specs.Prelude.{Option as Code, Some, None, MatchOption}
+use Rattle.std.specs.Iterator.{Yields, SkipsThenYields}
+use Rattle.text.specs.declared.readable.Readable.{Readable}
+use Rattle.std.specs.Option.{is_some}
+use mathlib.Core.Bool.{false≢true}
+use Rattle.naming.specs.declared.walks.Walk.{Walk}
+use Rattle.naming.specs.Steps.{Onward, GivesDeclaration}
 use Rattle.naming.specs.Walks.{declaration_of, Declares, Ends, At, Passed, Counted}
 
 -- The first of what is left of a list.
@@ -100,12 +106,49 @@ module _ (text : List ℕ) (at n : ℕ) (p : Passed text at n) where
     unfolding declared_twice
     once-nowhere e = e ∙ ap (declared_twice ds n) nothing
 
--- What is found in a text, and what is looked for there, by a table over that text.
-module _ (t : Table) (text : List ℕ) (m : text ≡ t.text) where
-  pub at_table : (at : ℕ) (o p : Code Declaration) → o ≡ p → At text at o → At t.text at p
-  at_table at o p e h = subst (At t.text at) e (subst (λ x. At x at o) m h)
+-- What is looked for in a text, by a table over that text.
+pub looked_up :
+    {V : Type 0} (t : Table V) (text : List ℕ) → text ≡ t.text → (from to : ℕ) (r : Code ℕ) → r ≡ found_at (last_with (is_name (slice_range text from to)) (name_at t) (length t.entries))
+    → r ≡ found_at (last_with (is_name (slice_range t.text from to)) (name_at t) (length t.entries))
+looked_up t text m from to r e = e ∙ ap (λ x. found_at (last_with (is_name (slice_range x from to)) (name_at t) (length t.entries))) m
 
-  pub looked_up :
-      (from to : ℕ) (r : Code ℕ) → r ≡ found_at (last_with (is_name (slice_range text from to)) (name_at t) (length t.entries))
-      → r ≡ found_at (last_with (is_name (slice_range t.text from to)) (name_at t) (length t.entries))
-  looked_up from to r e = e ∙ ap (λ x. found_at (last_with (is_name (slice_range x from to)) (name_at t) (length t.entries))) m
+-- What a test of an answer says.
+pub some_there : (r : Code ℕ) → is_some r ≡ true → (j : ℕ) × (r ≡ Some j)
+some_there None e = absurd (false≢true e)
+some_there (Some j) e = (j, refl)
+
+pub nothing_there : (r : Code ℕ) → is_some r ≡ false → r ≡ None
+nothing_there None e = refl
+nothing_there (Some j) e = absurd (false≢true (sym e))
+
+-- So many items of a walk.
+walked : (s : Walk) (xs : List Declaration) (t : Walk) → Yields GivesDeclaration s xs t → (t.text ≡ s.text) × (t.count ≡ s.count + length xs)
+walked s [] t y = (ap (λ (w : Walk). w.text) (sym y), omega (arith, ap (λ (w : Walk). w.count) y))
+walked s (d ∷ xs) t y =
+    let r = walked y.0 xs t y.2 in
+    (r.0 ∙ y.1.text, omega (arith, r.1, y.1.onward.0))
+
+module _ (s u : Walk) (r : Code Declaration) (y : SkipsThenYields GivesDeclaration s 4095 r u) where
+  abbrev last : Walk
+  last = y.1.0
+
+  gone : (last.text ≡ s.text) × (last.count ≡ s.count + length y.0)
+  gone = walked s y.0 last y.1.1
+
+  pub skipped_text : u.text ≡ s.text
+  skipped_text = y.1.2.text ∙ gone.0
+
+  all-passed : Ends last.text.text.now last.at → length (text_declarations s.text.text.now) ≡ s.count + length y.0
+  all-passed h =
+      ap (λ (t : Readable). length (text_declarations t.text.now)) (sym gone.0)
+      ∙ passed-all last.text.text.now last.at last.count last.passed h
+      ∙ gone.1
+
+  pub skipped_count : (u.count ≤ s.count + 4096) × (s.count < length (text_declarations s.text.text.now) → s.count < u.count)
+  skipped_count = go r y.2 y.1.2.found y.1.2.onward
+    where
+      go :
+          (o : Code Declaration) → MatchOption o (length y.0 ≤ 4095) (λ _. length y.0 ≡ 4095) → At last.text.text.now last.at o → Onward last o u
+          → (u.count ≤ s.count + 4096) × (s.count < length (text_declarations s.text.text.now) → s.count < u.count)
+      go None m h e = (omega (arith, gone.1, e.0, m), λ l. omega (arith, gone.1, e.0, all-passed h))
+      go (Some d) m h e = (omega (arith, gone.1, e.0, m), λ l. omega (arith, gone.1, e.0, m))

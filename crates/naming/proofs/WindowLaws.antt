@@ -10,9 +10,9 @@ use Rattle.text_rules.specs.TextWords as rules
 use Rattle.text_rules.specs.Text.{text_declarations, place_of}
 use Rattle.text.specs.declared.names.Entry.{Entry}
 use Rattle.text.specs.Hash.{last_with, found_at, is_name}
-use Rattle.text.specs.Names.{Table, entry_at, name_at, entered}
+use Rattle.text.specs.Names.{Table, name_at, entered}
 use Rattle.text.specs.Steps.{option_of}
-use Rattle.text.proofs.NameLaws.{bytes_same, last-below, last-passes, found_none, found_some, entered-old, entered-new}
+use Rattle.text.proofs.NameLaws.{bytes_same, last-below, last-passes, found_none, found_some, old-name_at, new-name_at}
 use Rattle.text.proofs.NumberLaws.{Names, Distinct, last_none, declared-once, declared-again}
 use Rattle.naming.specs.declared.declarations.Declaration.{Declaration}
 use Rattle.naming.specs.declared.windows.First.{First}
@@ -112,7 +112,7 @@ pub none-known : (text : List ℕ) (f : First) → Ended text f.number f.place �
 none-known text f e = record { distinct = λ i j p. absurd (omega arith); ended = e }
 
 -- The pass over the declarations from number `number` on: those up to n are passed, the first 4,096 of them in the table.
-pub record Passing (t : Table) (number last at n : ℕ) : Type 0 where
+pub record Passing {V : Type 0} (t : Table V) (number last at n : ℕ) : Type 0 where
   pub passed : Passed t.text at n
   pub before : n ≤ last
   pub most : length t.entries ≤ 4096
@@ -123,7 +123,7 @@ pub record Passing (t : Table) (number last at n : ℕ) : Type 0 where
       (i j : ℕ) → number ≤ i → i < number + length t.entries → i < j → j < n
       → name_of (text_declarations t.text) i ≡ name_of (text_declarations t.text) j → ⊥
 
-pub passing-none : (t : Table) (number last at : ℕ) → t.entries ≡ [] → Passed t.text at number → number ≤ last → Passing t number last at number
+pub passing-none : {V : Type 0} (t : Table V) (number last at : ℕ) → t.entries ≡ [] → Passed t.text at number → number ≤ last → Passing t number last at number
 passing-none t number last at z p l =
     let e : length t.entries ≡ 0 = ap length z in
     record {
@@ -136,7 +136,7 @@ passing-none t number last at z p l =
       distinct = λ i j p q. absurd (omega arith);
     }
 
-module _ (t : Table) (number last at n : ℕ) (P : Passing t number last at n) where
+module _ {V : Type 0} (t : Table V) (number last at n : ℕ) (P : Passing t number last at n) where
   abbrev ds : List rules.Declaration
   ds = text_declarations t.text
 
@@ -207,7 +207,7 @@ module _ (t : Table) (number last at n : ℕ) (P : Passing t number last at n) w
             go (yes l) = P.distinct i j p q a l s
             go (no l) = let u : j ≡ n = omega arith in fresh i p q (s ∙ ap (name_of ds) u)
 
-        module _ (left : n < last) (x : Entry) (same_from : x.from ≡ d.from) (same_to : x.to ≡ d.to) where
+        module _ (left : n < last) (x : Entry V) (same_from : x.from ≡ d.from) (same_to : x.to ≡ d.to) where
           unchanged : (k < 4096 → ⊥) → Passing t number last d.end (n + 1)
           unchanged f =
               record {
@@ -224,11 +224,12 @@ module _ (t : Table) (number last at n : ℕ) (P : Passing t number last at n) w
           size = length-append t.entries (x ∷ [])
 
           new-name : k < 4096 → (j : ℕ) → j < k + 1 → Dec (j < k) → name_at (entered t x) j ≡ name_of ds (number + j)
-          new-name f j l (yes p) = ap (λ (u : Entry). slice_range t.text u.from u.to) (entered-old t x j p) ∙ P.names j p
+          new-name f j l (yes p) = old-name_at t x j p ∙ P.names j p
           new-name f j l (no p) =
               let s : j ≡ k = omega arith in
               let u : n ≡ number + j = omega (arith, P.full f) in
-              ap (λ (u : Entry). slice_range t.text u.from u.to) (ap (entry_at (entered t x)) s ∙ entered-new t x)
+              ap (name_at (entered t x)) s
+              ∙ new-name_at t x
               ∙ ap₂ (slice_range t.text) same_from same_to
               ∙ sym (ap name_in there)
               ∙ ap (name_of ds) u
@@ -249,16 +250,16 @@ module _ (t : Table) (number last at n : ℕ) (P : Passing t number last at n) w
               new-distinct i j p q a b s (yes l) = differ i j p (omega (arith, P.full f)) a b s
               new-distinct i j p q a b s (no l) = absurd (omega arith)
 
-          pub passing-one : (t' : Table) → Kept t x t' → Passing t' number last d.end (n + 1)
+          pub passing-one : (t' : Table V) → Kept t x t' → Passing t' number last d.end (n + 1)
           passing-one t' K = go (dec_lt k 4096)
             where
               go : Dec (k < 4096) → Passing t' number last d.end (n + 1)
               go (yes f) = subst (λ u. Passing u number last d.end (n + 1)) (sym (K.more f)) (one-more f)
               go (no f) = subst (λ u. Passing u number last d.end (n + 1)) (sym (K.full (omega (arith, P.most)))) (unchanged f)
 
-          pub kept-text : (t' : Table) → Kept t x t' → t'.text ≡ t.text
+          pub kept-text : (t' : Table V) → Kept t x t' → t'.text ≡ t.text
           kept-text t' K = go (dec_lt k 4096)
             where
               go : Dec (k < 4096) → t'.text ≡ t.text
-              go (yes f) = ap (λ (u : Table). u.text) (K.more f)
-              go (no f) = ap (λ (u : Table). u.text) (K.full (omega (arith, P.most)))
+              go (yes f) = ap (λ (u : Table V). u.text) (K.more f)
+              go (no f) = ap (λ (u : Table V). u.text) (K.full (omega (arith, P.most)))

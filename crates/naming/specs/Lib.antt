@@ -1,3 +1,5 @@
 pub mod Table
 pub mod Walks
+pub mod Steps
+pub mod Declares
 pub mod Windows

@@ -8,7 +8,7 @@ use Rattle.text_rules.specs.Text.{text_declarations}
 use Rattle.text.specs.Names.{Table, entry_at, name_at}
 
 -- All declarations of the text are in the table, each with its symbol's word.
-pub record Declared (t : Table) : Type 0 where
+pub record Declared (t : Table ℕ) : Type 0 where
   pub count : length (text_declarations t.text) ≡ length t.entries
   pub names : (j : ℕ) (d : Declaration) → get_elem? (text_declarations t.text) j ≡ some d → name_at t j ≡ d.name
   pub symbol : (j : ℕ) (d : Declaration) → get_elem? (text_declarations t.text) j ≡ some d → (entry_at t j).value ≡ write_symbol d.symbol

@@ -1,26 +1,24 @@
 -- What the code finds at a place of a readable text: a declaration, or that there are no more.
-use Rattle.std.specs.Prelude.{ℕ, ◌-◌, ◌≤◌, ◌<◌, ◌≡◌, Bool, true, false, List, [], ◌∷◌, Option, Some, None, Result, Ok, Err, length, drop}
-use Rattle.std.proofs.Math.Option.{none, some}
+use Rattle.std.specs.Prelude.{ℕ, ◌-◌, ◌≤◌, ◌<◌, ◌≡◌, List, [], ◌∷◌, Option, Some, None, length, drop}
+use Rattle.std.proofs.Math.Option.{none}
 use Rattle.std.specs.List.{slice_range}
 use Rattle.rules.specs.Syntax.{Symbol, functor, predicate}
 use Rattle.text_rules.specs.TextTokens.{tokens}
 use Rattle.text_rules.specs.TextGrammar.{item, unread}
-use Rattle.text_rules.specs.TextWords.{declarations, clause_tokens, declared_twice}
+use Rattle.text_rules.specs.TextWords.{declarations, clause_tokens}
 use Rattle.text_rules.specs.TextWords as rules
-use Rattle.text_rules.specs.Text.{text_declarations, place_of}
+use Rattle.text_rules.specs.Text.{text_declarations}
+use Rattle.text.specs.declared.grammar.Key.{Key}
+use Rattle.text.specs.declared.grammar.Key.TheVariants.{Function, Predicate}
 use Rattle.naming.specs.declared.declarations.Declaration.{Declaration}
-use Rattle.naming.specs.declared.table.NameError.{NameError}
-use Rattle.naming.specs.declared.table.NameError.TheVariants.{Twice, Many}
-use Rattle.text.specs.Names.{Table}
-use Rattle.naming.specs.Table.{Declared}
 
-abbrev pub symbol_of : Bool → ℕ → Symbol
-symbol_of true k = predicate k
-symbol_of false k = functor k
+abbrev pub symbol_of : Key → ℕ → Symbol
+symbol_of Function k = functor k
+symbol_of Predicate k = predicate k
 
 abbrev pub declaration_of : List ℕ → Declaration → rules.Declaration
 declaration_of text d =
-    record { symbol = symbol_of d.predicate d.arity; name = slice_range text d.from d.to; left = length text - d.from }
+    record { symbol = symbol_of d.key d.arity; name = slice_range text d.from d.to; left = length text - d.from }
 
 -- A declaration from a place on, and what is left after it.
 pub record Declares (text : List ℕ) (at : ℕ) (d : Declaration) : Type 0 where
@@ -56,9 +54,3 @@ pub record Counted (text : List ℕ) (n end : ℕ) : Type 0 where
   pub count : length (text_declarations text) ≡ n
   pub inside : end ≤ length text
   pub clauses : clause_tokens 0 (tokens 0 text) ≡ tokens 0 (drop end text)
-
--- What the pass over the declarations leaves in the table.
-abbrev pub DidDeclare : Table → Result ℕ NameError → Type 0
-DidDeclare t (Ok end) = Declared t × Counted t.text (length t.entries) end
-DidDeclare t (Err (Twice place)) = place_of t.text (declared_twice (text_declarations t.text) 0 (text_declarations t.text)) ≡ some place
-DidDeclare t (Err Many) = 4096 < length (text_declarations t.text)

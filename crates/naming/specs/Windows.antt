@@ -36,6 +36,6 @@ pub record Known (text : List ℕ) (n : ℕ) (f : First) : Type 0 where
   pub ended : Ended text f.number f.place
 
 -- One name more in the table, as long as there are fewer than 4,096.
-pub record Kept (t : Table) (e : Entry) (t' : Table) : Type 0 where
+pub record Kept {V : Type 0} (t : Table V) (e : Entry V) (t' : Table V) : Type 0 where
   pub full : length t.entries ≡ 4096 → t' ≡ t
   pub more : length t.entries < 4096 → t' ≡ entered t e

@@ -6,7 +6,7 @@ ghost use Rattle.text_rules.specs.TextTokens.{tokens};
 ghost use Rattle.text_rules.specs.TextGrammar.{item, unread};
 ghost use Rattle.naming.specs.Walks.{symbol_of, At};
 
-use text::grammar::is_key;
+use text::grammar::{Key, key_of};
 use text::tokens::{Kind, next_token};
 
 // The name is the bytes from `from` up to `to`; the declaration ends before `end`.
@@ -14,22 +14,21 @@ use text::tokens::{Kind, next_token};
 pub struct Declaration {
     pub from: usize,
     pub to: usize,
-    pub predicate: bool,
+    pub key: Key,
     pub arity: u16,
     pub end: usize,
 }
 
 impl Declaration {
-    // The symbol's word.
+    // The symbol's word, as the deck's format has it: the arity, plus 256 for a predicate. `signature` reads the words of a deck, and there is none yet.
     #[tactic(auto, unfolding(rules::specs::Decks::write_symbol))]
     pub fn word(&self) -> u16
         requires { self.now.arity ≤ 15 }
-        ensures { result ≡ write_symbol (symbol_of self.now.predicate self.now.arity) }
+        ensures { result ≡ write_symbol (symbol_of self.now.key self.now.arity) }
     {
-        if self.predicate {
-            256 + self.arity
-        } else {
-            self.arity
+        match self.key {
+            Key::Function => self.arity,
+            Key::Predicate => 256 + self.arity,
         }
     }
 }
@@ -39,11 +38,9 @@ pub fn item_at(text: &[u8], at: usize) -> Option<Declaration>
     requires { (at ≤ length text.now) × (unread item (tokens 0 (drop at text.now)) ≡ none) }
     ensures { At text.now at result }
 {
-    let key = next_token(text, at);
-    if !is_key(text, key) {
-        return None;
-    }
-    let name = next_token(text, key.to);
+    let first = next_token(text, at);
+    let key = key_of(text, first)?;
+    let name = next_token(text, first.to);
     let Kind::Name = name.kind else {
         return None;
     };
@@ -56,7 +53,7 @@ pub fn item_at(text: &[u8], at: usize) -> Option<Declaration>
     Some(Declaration {
         from: name.from,
         to: name.to,
-        predicate: text[key.from] != b'f',
+        key,
         arity,
         end: dot.to,
     })

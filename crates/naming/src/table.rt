@@ -1,12 +1,11 @@
 // The declared names of a text in a table.
 ghost use Rattle.std.specs.Prelude.{◌≡◌, []};
-ghost use Rattle.std.proofs.Math.Option.{none};
-ghost use Rattle.text_rules.specs.TextTokens.{tokens};
-ghost use Rattle.text_rules.specs.TextGrammar.{item, unread};
-ghost use Rattle.naming.specs.Walks.{DidDeclare};
+ghost use Rattle.std.proofs.Props.{props};
+ghost use Rattle.naming.specs.Table.{Declared};
 
-use crate::declarations::item_at;
+use crate::walks::{Declarations, Walk};
 use text::names::{Entry, Names, ROOM};
+use text::readable::Readable;
 
 // A name declared for the second time, at that place; or more declarations than the table has room for.
 #[derive(Clone, Copy, Debug, PartialEq, Eq)]
@@ -15,30 +14,44 @@ pub enum NameError {
     Many,
 }
 
-// Enters each declaration's name with its symbol's word; the place after the last declaration.
-pub fn declare(names: &mut Names) -> Result<usize, NameError>
-    requires readable { unread item (tokens 0 names.old.text) ≡ none }
-    requires empty { names.old.entries ≡ [] }
-    ensures did_declare { DidDeclare names.new result }
-    ensures text { names.new.text ≡ names.old.text }
-{
-    let text = names.text();
-    let mut at = 0;
-    // A declaration's end is known once it is read, so this is no `for`.
-    while let Some(d) = item_at(text, at) {
-        if names.len() == ROOM {
-            return Err(NameError::Many);
+// The declarations of a text, and a table with the name of each and its symbol's word.
+#[derive(Clone, Copy)]
+pub struct DeclaredNames<'t, 'a> {
+    pub all: Declarations<'a>,
+    pub names: &'t Names<'a, u16, ROOM>,
+    ghost same: { names.now.text ≡ all.text.text.now },
+    ghost declared: { Declared names.now } by { Prim.hlevel props },
+}
+
+impl<'t, 'a> DeclaredNames<'t, 'a> {
+    ghost use Rattle.naming.specs.Declares.{DidDeclare};
+
+    // Enters them in the table, which has no names yet. A table may be of any text, so `same` says that it is this one.
+    pub fn new(
+        text: Readable<'a>,
+        names: &'t mut Names<'a, u16, ROOM>,
+    ) -> Result<DeclaredNames<'t, 'a>, NameError>
+        requires same { names.old.text ≡ text.text.now }
+        requires empty { names.old.entries ≡ [] }
+        ensures { DidDeclare text.entry result }
+    {
+        let mut end = 0;
+        for d in Walk::new(text) {
+            if names.len() == ROOM {
+                return Err(NameError::Many);
+            }
+            if names.find(&text.text[d.from..d.to]).is_some() {
+                return Err(NameError::Twice(d.from));
+            }
+            names.enter(Entry {
+                from: d.from,
+                to: d.to,
+                value: d.word(),
+            });
+            end = d.end;
         }
-        let known = names.find(&text[d.from..d.to]);
-        if let Some(_) = known {
-            return Err(NameError::Twice(d.from));
-        }
-        names.enter(Entry {
-            from: d.from,
-            to: d.to,
-            value: usize::from(d.word()),
-        });
-        at = d.end;
+        let count = names.len();
+        let all = Declarations { text, count, end };
+        Ok(DeclaredNames { all, names })
     }
-    Ok(at)
 }

@@ -1,54 +1,81 @@
-// Walks over the declarations of a text.
+// Walks over the declarations of a readable text.
 ghost use Rattle.std.specs.Prelude.{◌≡◌, ◌+◌, ◌≤◌, ◌<◌, length};
-ghost use Rattle.std.proofs.Math.Option.{none};
-ghost use Rattle.text_rules.specs.TextTokens.{tokens};
-ghost use Rattle.text_rules.specs.TextGrammar.{item, unread};
+ghost use Rattle.std.proofs.Props.{props};
 ghost use Rattle.text_rules.specs.Text.{text_declarations};
 ghost use Rattle.naming.specs.Walks.{Passed, Counted};
 
-use crate::declarations::item_at;
+use crate::declarations::{Declaration, item_at};
+use text::readable::Readable;
 
-// A number of declarations, and the place after the last one.
-#[derive(Clone, Copy, Debug, PartialEq, Eq)]
-pub struct Size {
+// So many declarations are passed, up to a place.
+#[derive(Clone, Copy)]
+pub struct Walk<'a> {
+    pub text: Readable<'a>,
     pub count: usize,
-    pub end: usize,
+    pub at: usize,
+    ghost passed: { Passed text.text.now at count } by { Prim.hlevel props },
 }
 
-pub fn count(text: &[u8]) -> Size
-    requires { unread item (tokens 0 text.now) ≡ none }
-    ensures { Counted text.now result.count result.end }
-{
-    let mut size = Size { count: 0, end: 0 };
-    // A declaration's end is known once it is read, so this is no `for`.
-    while let Some(d) = item_at(text, size.end) {
-        size = Size {
-            count: size.count + 1,
-            end: d.end,
-        };
+impl<'a> Walk<'a> {
+    // At the first declaration.
+    pub fn new(text: Readable<'a>) -> Walk<'a>
+        ensures { (result.text ≡ text.entry) × (result.count ≡ 0) × (result.at ≡ 0) }
+    {
+        Walk {
+            text,
+            count: 0,
+            at: 0,
+        }
     }
-    size
+}
+
+impl Iterator for Walk<'_> {
+    ghost use Rattle.naming.specs.Steps.{GivesDeclaration, bytes_left};
+
+    type Item = Declaration;
+
+    ghost next_gives = { GivesDeclaration };
+
+    ghost remaining = { bytes_left };
+
+    fn next(&mut self) -> Option<Declaration> {
+        let d = item_at(self.text.text, self.at)?;
+        self.at = d.end;
+        self.count += 1;
+        Some(d)
+    }
+}
+
+// The number of all declarations, and the place after the last one.
+#[derive(Clone, Copy)]
+pub struct Declarations<'a> {
+    pub text: Readable<'a>,
+    pub count: usize,
+    pub end: usize,
+    ghost counted: { Counted text.text.now count end } by { Prim.hlevel props },
+}
+
+// Counted beside the walk, which has the same two numbers: the `for` uses it up.
+pub fn count<'a>(text: Readable<'a>) -> Declarations<'a>
+    ensures { result.text ≡ text.entry }
+{
+    let mut count = 0;
+    let mut end = 0;
+    // The walk counts too, but the `for` takes it.
+    for d in Walk::new(text) {
+        count += 1;
+        end = d.end;
+    }
+    Declarations { text, count, end }
 }
 
 // After the next 4,096 declarations, or after the last one.
-pub fn skip(text: &[u8], passed: Size) -> Size
-    requires { Passed text.now passed.end passed.count }
-    ensures passed { Passed text.now result.end result.count }
-    ensures few { result.count ≤ passed.count + 4096 }
-    ensures more { passed.count < length (text_declarations text.now) → passed.count < result.count }
+pub fn skip<'a>(passed: Walk<'a>) -> Walk<'a>
+    ensures text { result.text ≡ passed.entry.text }
+    ensures few { result.count ≤ passed.entry.count + 4096 }
+    ensures more { passed.entry.count < length (text_declarations passed.entry.text.text.now) → passed.entry.count < result.count }
 {
-    let Size { count, mut end } = passed;
-    for i in 0..4096 {
-        let Some(d) = item_at(text, end) else {
-            return Size {
-                count: count + i,
-                end,
-            };
-        };
-        end = d.end;
-    }
-    Size {
-        count: count + 4096,
-        end,
-    }
+    let mut walk = passed;
+    walk.nth(4095);
+    walk
 }

@@ -1,5 +1,5 @@
 -- The deck file's words, opened, and the query's bytes.
-use Rattle.std.proofs.Common.{◌≡◌, ℕ, ◌≤◌, ◌<◌, ◌%◌, List, length, arith}
+use Rattle.std.proofs.Common.{◌≡◌, ℕ, ◌≤◌, ◌<◌, ◌%◌, List, length}
 use borrow.Author.Tests.{le-leb, lt-leb, eq-eqb, ne_eqb}
 use Rattle.std.proofs.Math.Option.{Option}
 use Rattle.rules.specs.Syntax.{Deck}

@@ -5,7 +5,7 @@ use mathlib.Core.Bool.{true}
 use mathlib.Core.Option.{Option}
 use mathlib.Core.List.{List}
 use native.Mathlib.Omega.{arith}
-use lib.ListN.{length}
+use lib.ListN.{length, replicate, length-replicate}
 use Rattle.rules.specs.Syntax.{Deck}
 use Rattle.rules.specs.Refusals.{Refusal, Checked, refused, accepted, and_then}
 use Rattle.rules.specs.Decks.{header_fits, open_deck}
@@ -62,6 +62,13 @@ pub record Buffers (s : Slices) : Type 0 where
   pub answers : length s.answers ≡ 8192
   pub store : length s.store ≡ 16384
   pub scratch : length s.scratch ≡ 8192
+
+pub zeros-buffers : {s : Slices} → s.answers ≡ replicate 8192 0 → s.store ≡ replicate 16384 0 → s.scratch ≡ replicate 8192 0 → Buffers s
+zeros-buffers a b c = record {
+  answers = ap length a ∙ length-replicate {A = ℕ} 8192 0;
+  store = ap length b ∙ length-replicate {A = ℕ} 16384 0;
+  scratch = ap length c ∙ length-replicate {A = ℕ} 8192 0;
+}
 
 pub returned-refused : (x : Checked Outcome) (n : Refusal) → refused n ≡ returned x → x ≡ refused n
 unfolding returned

@@ -5,8 +5,7 @@ ghost use Rattle.listing.specs.Printed.{file_of};
 ghost use Rattle.program_parts.specs.Answers.{ComesTo};
 
 use deck::Refusal;
-use listing::input::read_words;
-use program_parts::deck_words;
+use program_parts::{deck_words, words_of};
 
 // The words of the deck file, if there is one, and if they open: else refusals 1 to 5.
 pub fn opened_deck<'a>(
@@ -30,6 +29,5 @@ pub fn query_words<'a>(query: &[u8], words: &'a mut [u16; 500]) -> Result<&'a [u
     if !query.len().is_multiple_of(2) {
         return Err(Refusal::Query);
     }
-    let n = read_words(query, words);
-    Ok(&words[..n])
+    Ok(words_of(query, words))
 }

@@ -9,13 +9,19 @@ ghost use Rattle.program.specs.Runs.{words_run};
 
 use deck::Refusal;
 use input::{opened_deck, query_words};
-use listing::put_listing;
+use listing::output::Output;
+use lists::Lists;
 use program_parts::or_refusal;
 
 pub mod input;
+pub mod lists;
+
+// The budget where none is given.
+pub const BUDGET: u32 = 100000;
 
 // What the program prints, at the start of `out`, whose other bytes stay; the result is how many bytes.
 // The deck is refused before anything is said of the query. A listing has at most 69 bytes in its first two lines, and 8 for each word of the answer list.
+// A number beside the room (c): tried as a `&'a [u8]` of it with `follows_so`; the check wants `printed_spec` by hand, and a caller's `c.out-1.given` stays open.
 pub fn printed(deck: Option<&[u8]>, query: &[u8], out: &mut [u8; 65605]) -> usize
     ensures { Printed (program (file_of deck.entry) query.now) out.old result out.new }
 {
@@ -38,10 +44,17 @@ fn asked(deck: Option<&[u8]>, query: &[u8], out: &mut [u8; 65605]) -> Result<usi
 fn listed(deck: &[u16], query: &[u16], out: &mut [u8; 65605]) -> Result<usize, Refusal>
     ensures { Prints listing (words_run deck.now query.now) out.old result out.new }
 {
-    let mut answers = [0u16; 8192];
-    let mut store = [0u16; 16384];
-    let mut scratch = [0u16; 8192];
-    let report = evaluation::run(deck, query, 100000, &mut answers, &mut store, &mut scratch)?;
+    let mut lists = Lists::new();
+    let report = evaluation::run(
+        deck,
+        query,
+        BUDGET,
+        &mut lists.answers,
+        &mut lists.store,
+        &mut lists.scratch,
+    )?;
     let symbols = deck::parts::symbols(deck);
-    Ok(put_listing(out, report, &answers, symbols))
+    let mut out = Output::new(out);
+    out.put_listing(report, &lists.answers, symbols);
+    Ok(out.at)
 }

@@ -1,2 +1,4 @@
+pub mod FilterLaws
 pub mod FileLaws
 pub mod PrintLaws
+pub mod SizeLaws

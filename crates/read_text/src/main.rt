@@ -15,6 +15,7 @@ fn main(rt: HostRuntime) -> io::Result<()> {
 
 // Reads a text from the input, and writes what is printed of it.
 // No more is read than it takes to tell that there is too much.
+// No function for all programs takes the rule's function: this contract would stay here, and that function would need one as long, over any rule.
 fn answer<T: Read, W: Write>(input: &mut T, to: &mut W) -> io::Result<()>
     ensures { OnOk result ((text : List ℕ)
         × Consumes (T.remaining input.old) (T.remaining input.new) text

@@ -9,12 +9,12 @@ use lib.ListN.{length, take, drop, length-append, length-drop}
 use lib.Seq.{take-append_seam}
 use lib.Dec.{leb}
 use borrow.Author.Tests.{leb-true}
-use Rattle.rules.specs.Syntax.{Symbol, functor, predicate, Deck}
+use Rattle.rules.specs.Syntax.{Deck}
 use Rattle.rules.specs.Refusals.{Refusal, bad_text, no_room, refusal_number, Checked, refused, accepted, and_then, require, checked_number}
-use Rattle.rules.specs.Decks.{write_symbol, header_words, header, header_fits, symbol_words, clause_words, term_cells, read_symbol, read_clause, read_all, starts_fit, clause_rows, rows_short, open_deck}
+use Rattle.rules.specs.Decks.{header_words, header, header_fits, symbol_words, clause_words, term_cells, read_symbol, read_clause, read_all, starts_fit, clause_rows, rows_short, open_deck}
 use Rattle.text_rules.specs.TextTokens.{tokens}
 use Rattle.text_rules.specs.TextGrammar.{item, unread}
-use Rattle.text_rules.specs.TextWords.{arity, declared_twice, misused, deck_from}
+use Rattle.text_rules.specs.TextWords.{declared_twice, misused, deck_from}
 use Rattle.text_rules.specs.Text.{text_declarations, text_entries, text_words, or_else, bad_left, place_of, bad_place, absent, read_text}
 use Rattle.deck.specs.declared.Refusal.{Refusal as Why}
 use Rattle.deck.specs.declared.Refusal.TheVariants.{Room}
@@ -24,11 +24,8 @@ use Rattle.deck.specs.Kinds.{symbols_of}
 use Rattle.deck.proofs.OpenLaws.{unless, fails, clauses_number, short_number, starts_number, symbols_number, open-number}
 use Rattle.deck.proofs.RefusalLaws.{number-accepts, number-refuses}
 use Rattle.rules.proofs.DeckLaws.{fit-facts}
-use Rattle.text.specs.Names.{Table, entry_at}
-use Rattle.naming.specs.Table.{Declared}
 use Rattle.naming.specs.Walks.{Counted}
-use Rattle.naming.proofs.ArityLaws.{arity-small}
-use Rattle.naming.proofs.FindLaws.{is-there}
+use Rattle.naming.specs.declared.table.DeclaredNames.{DeclaredNames}
 use Rattle.encoding.specs.declared.sizes.Sizes.{Sizes}
 use Rattle.encoding.specs.Walk.{Sized}
 use Rattle.encoding.proofs.EncodeLaws.{words-length}
@@ -82,6 +79,10 @@ module _ (text : List ℕ) where
     pub readable : twice ≡ none → uses ≡ none → bad_place text ≡ none
     unfolding bad_place bad_left or_else place_of
     readable t u = ap (λ o. place_of text (or_else o (or_else twice uses))) g ∙ ap (λ o. place_of text (or_else o uses)) t ∙ ap (place_of text) u
+
+-- The names in a table are declared once each.
+pub once : (d : DeclaredNames) → twice d.all.text.text.now ≡ none
+once d = rw (sym d.same) d.declared.distinct
 
 -- The rules' answer.
 abbrev pub fitting : List ℕ → ℕ → Bool
@@ -219,14 +220,3 @@ module _ (text : List ℕ) (n end : ℕ) (s : Sizes) (c : Counted text n end) (z
 -- The words in front of a list.
 pub front-words : (ws rest after : List ℕ) (k : ℕ) → after ≡ ws ++ rest → k ≡ length ws → take k after ≡ ws
 front-words ws rest after k e f = rw (f, e) (take-append_seam ws rest)
-
--- The words of a readable text's symbols.
-word_small : (x : Symbol) → arity x ≤ 15 → write_symbol x < 65536
-unfolding write_symbol
-word_small (functor a) h = omega arith
-word_small (predicate a) h = omega arith
-
-pub word-small : (t : Table) → Declared t → unread item (tokens 0 t.text) ≡ none → (j : ℕ) → j < length t.entries → (entry_at t j).value < 65536
-word-small t D e j h =
-    let x = is-there (text_declarations t.text) j (omega (arith, D.count)) in
-    omega (arith, D.symbol j x.0 x.1, word_small x.0.symbol (arity-small t.text e j x.0 x.1))

@@ -1,4 +1,4 @@
-// Whether a deck of those sizes fits.
+// Whether a deck of those sizes fits. A bool, and not the sum: where there is no deck to write (many.rt), it has no use.
 ghost use Rattle.std.specs.Prelude.{◌≡◌, ◌&&◌, ◌+◌, leb};
 
 use encoding::sizes::Sizes;

@@ -1,23 +1,24 @@
 -- The derived goal's words: its terms written one range after another under one numbering, and then its two first words.
 use Prim.Native.Nat.{ℕ, suc, ◌+◌, ◌-◌, ◌≤◌}
-use mathlib.Core.Path.{◌≡◌, refl, sym, ◌∙◌, ap, ap₂, subst}
+use mathlib.Core.Path.{◌≡◌, sym, ◌∙◌, ap, ap₂, subst}
 use mathlib.Core.List.{List, [], ◌∷◌}
 use native.Mathlib.Omega.{arith}
 use lib.ListN.{length, take, drop, set}
 use lib.Seq.{sets, sets-eq, take-append_seam}
 use Rattle.rules.specs.Terms.{Terms, ◌+++◌, sizes}
-use Rattle.rules.specs.Unification.{Unification, fails, solved, equations, applys}
+use Rattle.rules.specs.Unification.{Unification, solved, equations, applys}
 use Rattle.rules.proofs.TermLaws.{sizes-join, join-assoc}
 use Rattle.matching.specs.Taking.{drop_t}
 use Rattle.matching.specs.Cells.{from, term_at}
 use Rattle.matching.specs.Bindings.{elims, Ready}
 use Rattle.matching.proofs.CellLaws.{from_cons}
 use Rattle.resolvents.specs.Naming.{within, order_after, cells_under, Wrote}
+use Rattle.resolvents.specs.declared.resolve.Call.{Call}
 use Rattle.resolvents.specs.Child.{range_after, literals_after, IsChild, DerivedBy, place_after, literals_before, Together}
 use Rattle.std.specs.Prelude.{Result, Ok, Err}
 use Rattle.resolvents.specs.declared.put.Full.{Full}
 use Rattle.resolvents.specs.declared.resolve.Resolved.{Resolved}
-use Rattle.resolvents.specs.declared.resolve.Resolved.TheVariants.{Nothing, Child, Oversized}
+use Rattle.resolvents.specs.declared.resolve.Resolved.TheVariants.{Child}
 use Rattle.resolvents.proofs.WroteLaws.{length-under, wrote-join, wrote-full, wrote-length}
 use Rattle.resolvents.proofs.WalkLaws.{applys-append}
 use Rattle.resolvents.proofs.RowLaws.{skipped}
@@ -57,9 +58,6 @@ framed (x ∷ y ∷ zs) xs a b h =
     ∙ ap (λ l. a ∷ b ∷ l) (take-append_seam xs (drop (2 + length xs) (x ∷ y ∷ zs)))
 
 module _ {out order : List ℕ} (A L : Terms) {out' names' order' : List ℕ} {m' : ℕ} (long : length out ≡ 1024) where
-  pub child-oversized : {m : ℕ} {why : Full} (child : List ℕ) → Wrote out order 2 m (A +++ L) out' names' order' m' (Err why) → IsChild A L child Oversized
-  child-oversized child w = omega (arith, w.tells)
-
   pub child-narrow : {m end width : ℕ} → width ≡ sizes A → Wrote out order 2 m (A +++ L) out' names' order' m' (Ok end) → (width ≤ 1024) × (end ≤ 1024) × (length out' ≡ 1024)
   child-narrow wide w = (omega (arith, w.tells.0, w.tells.1, sizes-join A L), omega (arith, w.tells.1), wrote-length w ∙ long)
 
@@ -86,31 +84,28 @@ module _ {out order : List ℕ} (A L : Terms) {out' names' order' : List ℕ} {m
 pub rest-left : {u v : Unification} {left : ℕ} (rest : ℕ) → u ≡ v → equations v + rest ≡ left → equations u + rest ≡ left
 rest-left rest e q = ap (λ x. equations x + rest) e ∙ q
 
-pub derived-fails : {o : Unification} (A L : Terms) (child : List ℕ) (k : ℕ) → o ≡ fails k → DerivedBy o A L child Nothing
-derived-fails {o} A L child k e = subst (λ u. DerivedBy u A L child Nothing) (sym e) refl
-
 -- The substitution goes through the ranges of literals.
-module _ (ar cells bs trail : List ℕ) (n size answers s e body : ℕ) (here : body ≡ place_after ar cells size) where
-  literals-after : applys (elims ar cells bs trail n) (literals_before ar cells size answers s e) ≡ literals_after ar cells bs trail n size answers s e body
+module _ (ar cells bs trail : List ℕ) (n : ℕ) (call : Call) (body : ℕ) (here : body ≡ place_after ar cells call.len) where
+  literals-after : applys (elims ar cells bs trail n) (literals_before ar cells call) ≡ literals_after ar cells bs trail n call body
   literals-after =
       let es = elims ar cells bs trail n in
-      let B = within ar cells answers s in
-      let C = within ar cells (place_after ar cells size) (length cells) in
-      let D = within ar cells e size in
+      let B = within ar cells call.answers call.s in
+      let C = within ar cells (place_after ar cells call.len) (length cells) in
+      let D = within ar cells call.e call.len in
       applys-append es B (D +++ C)
       ∙ ap (applys es B +++◌) (applys-append es D C)
       ∙ ap (λ p. applys es B +++ (applys es D +++ applys es (within ar cells p (length cells)))) (sym here)
 
   pub derived-solved :
       {o : Unification} (child : List ℕ) (r : Resolved) (k : ℕ) → o ≡ solved k (elims ar cells bs trail n)
-      → IsChild (range_after ar cells bs trail n 0 answers) (literals_after ar cells bs trail n size answers s e body) child r
-      → DerivedBy o (within ar cells 0 answers) (literals_before ar cells size answers s e) child r
+      → IsChild (range_after ar cells bs trail n 0 call.answers) (literals_after ar cells bs trail n call body) child r
+      → DerivedBy o (within ar cells 0 call.answers) (literals_before ar cells call) child r
   derived-solved child r k q h =
-      subst (λ u. DerivedBy u (within ar cells 0 answers) (literals_before ar cells size answers s e) child r) (sym q)
-      (subst (λ ts. IsChild (range_after ar cells bs trail n 0 answers) ts child r) (sym literals-after) h)
+      subst (λ u. DerivedBy u (within ar cells 0 call.answers) (literals_before ar cells call) child r) (sym q)
+      (subst (λ ts. IsChild (range_after ar cells bs trail n 0 call.answers) ts child r) (sym literals-after) h)
 
 -- The table of a run has room for the variables.
-pub rows-ready : {ar cells : List ℕ} {size answers s e number : ℕ} {nv room marks : ℕ} → Together ar cells size answers s e number → nv ≡ 1280 → room ≡ 1280 → marks ≡ 1280 → Ready ar cells nv room marks
+pub rows-ready : {ar cells : List ℕ} {call : Call} {number : ℕ} {nv room marks : ℕ} → Together ar cells call number → nv ≡ 1280 → room ≡ 1280 → marks ≡ 1280 → Ready ar cells nv room marks
 rows-ready t bind trail marks =
     record {
       formed = t.formed;
@@ -122,7 +117,7 @@ rows-ready t bind trail marks =
 
 -- The place after the clause's head.
 pub head-ends :
-    {ar cells : List ℕ} {size answers s e number : ℕ} (r : ℕ) → Together ar cells size answers s e number → r ≤ length cells
-    → from ar cells r ≡ drop_t 1 (from ar cells size) → r ≡ place_after ar cells size
-head-ends {ar} {cells} {size} r t l d =
-    skipped ar cells size r (term_at ar cells size) (drop_t 1 (from ar cells size)) (omega (arith, t.clause)) l (from_cons ar cells size t.clause) d
+    {ar cells : List ℕ} {call : Call} {number : ℕ} (r : ℕ) → Together ar cells call number → r ≤ length cells
+    → from ar cells r ≡ drop_t 1 (from ar cells call.len) → r ≡ place_after ar cells call.len
+head-ends {ar} {cells} {call} r t l d =
+    skipped ar cells call.len r (term_at ar cells call.len) (drop_t 1 (from ar cells call.len)) (omega (arith, t.clause)) l (from_cons ar cells call.len t.clause) d

@@ -3,6 +3,7 @@ pub mod WroteLaws
 pub mod WalkLaws
 pub mod CellTrees
 pub mod RowLaws
+pub mod LeadingLaws
 pub mod VariableLaws
 pub mod PassedLaws
 pub mod ChildLaws

@@ -1,5 +1,5 @@
 -- Variables named one after another: the order of first appearance over one list and then another, and what naming one more keeps.
-use Prim.Native.Nat.{ℕ, zero, suc, ◌+◌, ◌-◌, ◌≤◌, ◌<◌}
+use Prim.Native.Nat.{ℕ, zero, suc, ◌+◌, ◌≤◌, ◌<◌}
 use mathlib.Core.Path.{◌≡◌, refl, sym, ◌∙◌, ap}
 use mathlib.Core.Logic.{◌≢◌, ◌⊎◌, inl, inr, ⊎_elim}
 use mathlib.Core.Bool.{Bool, true, false, true≢false}
@@ -8,8 +8,9 @@ use mathlib.Core.List.{List, [], ◌∷◌, ◌++◌}
 use native.Mathlib.Decide.{ℕ_discrete}
 use native.Mathlib.Omega.{arith}
 use native.Mathlib.Numerals.{add-one}
-use lib.ListN.{length, get_or, take, set, replicate, length-set, length-replicate, get_or-replicate}
-use lib.Seq.{length-take-le, take-suc, take-suc-set, get_or-take, get_or-set_same, get_or-set_other}
+use lib.ListN.{length, get_or, take, set, replicate, length-append, length-set, length-replicate, get_or-replicate}
+use Rattle.std.proofs.lemmas.List.{get_or_push, take_at}
+use lib.Seq.{length-take-le, take-suc, take-suc-set, take-append_seam, get_or-take, get_or-set_same, get_or-set_other}
 use Rattle.rules.specs.Goals.{member, appearing, position}
 use Rattle.rules.proofs.TermLaws.{ite-yes, ite-no}
 use Rattle.rules.proofs.NumberingLaws.{In, member-in, in-member, position-below, position-left, position-right, position_first, at_position}
@@ -191,6 +192,14 @@ module _ {names order : List ℕ} (i : ℕ) (w : Named names order (suc i)) wher
     numbered = λ j l. get_or-set_other names last (get_or order j 0) 65535 0 (last-other j l) ∙ w.numbered j (omega arith);
   }
 
-pub named_less : {names order : List ℕ} {m : ℕ} → Named names order m → 0 < m → Named (set names (get_or order (m - 1) 0) 65535) order (m - 1)
-named_less {m = zero} w l = absurd (omega arith)
-named_less {m = suc i} w l = let e : suc i - 1 ≡ i = omega arith in rw e (named-last i w)
+-- Without the last: xs are the variables before it.
+pub named-popped : {names order : List ℕ} (xs : List ℕ) (y : ℕ) → Named names order (length (xs ++ (y ∷ []))) → xs ++ (y ∷ []) ≡ take (length (xs ++ (y ∷ []))) order
+    → Named (set names y 65535) order (length xs) × (xs ≡ take (length xs) order)
+named-popped {names} {order} xs y w h =
+    let e : length (xs ++ (y ∷ [])) ≡ suc (length xs) = omega (arith, length-append xs (y ∷ [])) in
+    let w' : Named names order (suc (length xs)) = rw e at w in
+    let l : length xs < length order = omega (arith, w'.counted, w'.room) in
+    let split : xs ++ (y ∷ []) ≡ take (length xs) order ++ (get_or order (length xs) 0 ∷ []) = h ∙ ap (λ n. take n order) e ∙ take-suc order (length xs) 0 l in
+    let front : xs ≡ take (length xs) order = sym (take-append_seam xs (y ∷ [])) ∙ ap (take (length xs)) split ∙ take_at (take (length xs) order) (get_or order (length xs) 0 ∷ []) (length xs) (length-take-le (length xs) order (omega arith)) in
+    let last : y ≡ get_or order (length xs) 0 = sym (get_or_push xs y 0 (length xs) refl) ∙ ap (λ l. get_or l (length xs) 0) split ∙ get_or_push (take (length xs) order) (get_or order (length xs) 0) 0 (length xs) (length-take-le (length xs) order (omega arith)) in
+    (rw last (named-last (length xs) w'), front)

@@ -62,6 +62,9 @@ stands-start : {cells : List ℕ} {ts : Terms} → cells ≡ write_terms ts [] �
 stands-start e = record { inside = omega arith; there = e }
 
 module _ {cells : List ℕ} {p : ℕ} {us : Terms} {rest : List ℕ} (s : Stands cells p us rest) where
+  pub stands-head : get_or cells p 0 ≡ get_or (write_terms us rest) 0 0
+  stands-head = let e : p + 0 ≡ p = omega arith in ap (λ n. get_or cells n 0) (sym e) ∙ sym (get_or-drop p cells 0 0) ∙ ap (λ l. get_or l 0 0) s.there
+
   pub stands-room : p + sizes us + length rest ≡ length cells
   stands-room = omega (arith, s.inside, length-drop p cells, ap length s.there, terms-length us rest)
 
@@ -104,7 +107,7 @@ module _ {cells : List ℕ} {p f : ℕ} {ts us : Terms} {rest : List ℕ} (s : S
   stands-inside = omega (arith, stands-room s)
 
   pub stands-cell : get_or cells p 0 ≡ f
-  stands-cell = let e : p + 0 ≡ p = omega arith in ap (λ n. get_or cells n 0) (sym e) ∙ sym (get_or-drop p cells 0 0) ∙ ap (λ l. get_or l 0 0) s.there
+  stands-cell = stands-head s
 
   pub stands-arguments : Stands cells (p + 1) ts (write_terms us rest)
   stands-arguments = record { inside = omega (arith, stands-inside); there = sym (drop-drop 1 p cells) ∙ ap (drop 1) s.there }

@@ -15,20 +15,21 @@ use Rattle.resolvents.specs.declared.resolve.Resolved.TheVariants.{Nothing, Chil
 abbrev pub range_after : List ℕ → List ℕ → List ℕ → List ℕ → ℕ → ℕ → ℕ → Terms
 range_after ar cells bs trail n p end = applys (elims ar cells bs trail n) (within ar cells p end)
 
--- The literals as terms: those before the selected one, which stands from s up to e, those after it, and the clause's body from place `body` on.
-abbrev pub literals_after : List ℕ → List ℕ → List ℕ → List ℕ → ℕ → ℕ → ℕ → ℕ → ℕ → ℕ → Terms
-literals_after ar cells bs trail n size answers s e body =
-    range_after ar cells bs trail n answers s +++ (range_after ar cells bs trail n e size +++ range_after ar cells bs trail n body (length cells))
+-- The literals as terms: those before the selected one, those after it, and the clause's body from place `body` on.
+abbrev pub literals_after : List ℕ → List ℕ → List ℕ → List ℕ → ℕ → Call → ℕ → Terms
+literals_after ar cells bs trail n call body =
+    range_after ar cells bs trail n call.answers call.s +++ (range_after ar cells bs trail n call.e call.len +++ range_after ar cells bs trail n body (length cells))
 
--- The same by the bindings b, for a call.
+-- The same by the bindings b.
 abbrev pub literals_by : Bound → Call → ℕ → Terms
-literals_by b call body = literals_after b.terms.symbols.now b.terms.cells.now b.table.now.bind b.table.now.trail b.table.now.bound call.len call.answers call.s call.e body
+literals_by b call body = literals_after b.terms.symbols.now b.terms.cells.now b.table.now.bind b.table.now.trail b.table.now.bound call body
 
 -- Such ranges in the cells.
-pub record Ranges (cells : List ℕ) (size answers s e body : ℕ) : Type 0 where
-  pub answered : answers ≤ s
-  pub selected : s ≤ size
-  pub rest : e ≤ size
+pub record Ranges (cells : List ℕ) (call : Call) (body : ℕ) : Type 0 where
+  pub inside : call.len ≤ length cells
+  pub answered : call.answers ≤ call.s
+  pub selected : call.s ≤ call.len
+  pub rest : call.e ≤ call.len
   pub clause : body ≤ length cells
 
 -- The answer terms and the literals are written from place 2 on, with how many cells are the answer terms'; or they do not fit.
@@ -59,17 +60,17 @@ abbrev pub place_after : List ℕ → List ℕ → ℕ → ℕ
 place_after ar cells p = p + size (term_at ar cells p)
 
 -- The literals of `literals_after` before the eliminations; the clause's body begins after its head.
-abbrev pub literals_before : List ℕ → List ℕ → ℕ → ℕ → ℕ → ℕ → Terms
-literals_before ar cells size answers s e =
-    within ar cells answers s +++ (within ar cells e size +++ within ar cells (place_after ar cells size) (length cells))
+abbrev pub literals_before : List ℕ → List ℕ → Call → Terms
+literals_before ar cells call =
+    within ar cells call.answers call.s +++ (within ar cells call.e call.len +++ within ar cells (place_after ar cells call.len) (length cells))
 
--- A goal's `size` cells and then a clause's: in order, over 1,280 variables, with `number` arguments of the literal at s and of the head.
-pub record Together (ar cells : List ℕ) (size answers s e number : ℕ) : Type 0 where
+-- A goal's cells and then a clause's: in order, over 1,280 variables, with `number` arguments of the literal and of the head.
+pub record Together (ar cells : List ℕ) (call : Call) (number : ℕ) : Type 0 where
   pub formed : Formed ar cells
   pub few : (p : ℕ) → p < length cells → 32768 ≤ get_or cells p 0 → get_or cells p 0 - 32768 < 1280
-  pub answered : answers ≤ s
-  pub selected : s < e
-  pub rest : e ≤ size
-  pub clause : size < length cells
-  pub literal : number ≤ count (from ar cells (s + 1))
-  pub head : number ≤ count (from ar cells (size + 1))
+  pub answered : call.answers ≤ call.s
+  pub selected : call.s < call.e
+  pub rest : call.e ≤ call.len
+  pub clause : call.len < length cells
+  pub literal : number ≤ count (from ar cells (call.s + 1))
+  pub head : number ≤ count (from ar cells (call.len + 1))

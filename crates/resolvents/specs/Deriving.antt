@@ -2,7 +2,7 @@
 use Rattle.std.specs.Prelude.{ℕ, ◌+◌, ◌≤◌, ◌<◌, ◌≡◌, List, ◌∷◌, ◌++◌, length, take, Option, Some, None}
 use Rattle.std.proofs.Math.Option as math
 use Rattle.std.proofs.Math.Option.{none, some}
-use Rattle.rules.specs.Terms.{Terms}
+use Rattle.rules.specs.Terms.{app, var, Terms, nil, cons}
 use Rattle.rules.specs.Syntax.{Symbol, Literal, pos, Clause, Goal, top_goal}
 use Rattle.rules.specs.Decks.{write_clause}
 use Rattle.rules.specs.Unification.{equations, unify}
@@ -13,6 +13,7 @@ use Rattle.matching.specs.Bindings.{Blank}
 use Rattle.matching.specs.declared.bindings.Table.{Table}
 use Rattle.resolvents.specs.declared.put.Draft.{Draft}
 use Rattle.resolvents.specs.Selecting.{GoalCells, Spans}
+use Rattle.resolvents.specs.declared.resolve.Call.{Call}
 use Rattle.resolvents.specs.declared.resolve.Resolved.{Resolved}
 use Rattle.resolvents.specs.declared.resolve.Resolved.TheVariants.{Nothing, Child, Oversized}
 
@@ -22,14 +23,31 @@ pub record Rows (table : Table) (draft : Draft) : Type 0 where
   pub empty : table.bound ≡ 0
   pub none_named : draft.named ≡ 0
 
--- The first `size` cells are those of the goal g, in which the positive literal p(ts), with `before` and `after` around it, stands from s
--- up to e; its variables are below n.
-pub record Calls (ar cells : List ℕ) (size answers s e n : ℕ) (S : List Symbol) (g : Goal) (before : List Literal) (p : ℕ) (ts : Terms) (after : List Literal) : Type 0 where
-  pub inside : size ≤ length cells
-  pub goal : GoalCells ar (take size cells) answers S g
+-- The call's first cells are those of the goal g, and its literal is the positive one p(ts), with `before` and `after` around it; the variables
+-- are below n.
+pub record Calls (ar cells : List ℕ) (call : Call) (n : ℕ) (S : List Symbol) (g : Goal) (before : List Literal) (p : ℕ) (ts : Terms) (after : List Literal) : Type 0 where
+  pub inside : call.len ≤ length cells
+  pub goal : GoalCells ar (take call.len cells) call.answers S g
   pub literals : g.literals ≡ before ++ (pos p ts ∷ after)
-  pub span : Spans g.answers before (pos p ts) s e
+  pub span : Spans g.answers before (pos p ts) call.s call.e
   pub fresh : n ≡ top_goal g
+
+-- There is such a goal.
+pub record SomeGoalCall (ar cells : List ℕ) (call : Call) : Type 0 where
+  pub n : ℕ
+  pub symbols : List Symbol
+  pub goal : Goal
+  pub before : List Literal
+  pub predicate : ℕ
+  pub terms : Terms
+  pub after : List Literal
+  pub calls : Calls ar cells call n symbols goal before predicate terms after
+
+-- The symbol that the first of the terms begins with: none where there is no term, or a variable.
+abbrev pub leading_symbol : Terms → Option ℕ
+leading_symbol nil = None
+leading_symbol (cons (var v) ts) = None
+leading_symbol (cons (app f us) ts) = Some f
 
 -- The clause's cells are those of c, which is about p.
 pub record About (clause : List ℕ) (S : List Symbol) (p : ℕ) (c : Clause) : Type 0 where
@@ -38,7 +56,7 @@ pub record About (clause : List ℕ) (S : List Symbol) (p : ℕ) (c : Clause) : 
   pub about : c.predicate ≡ p
 
 -- There are such a goal and such a clause.
-pub record SomeCall (ar cells clause : List ℕ) (size answers s e n : ℕ) : Type 0 where
+pub record SomeCall (ar cells clause : List ℕ) (call : Call) (n : ℕ) : Type 0 where
   pub symbols : List Symbol
   pub goal : Goal
   pub before : List Literal
@@ -46,7 +64,7 @@ pub record SomeCall (ar cells clause : List ℕ) (size answers s e n : ℕ) : Ty
   pub terms : Terms
   pub after : List Literal
   pub clause' : Clause
-  pub calls : Calls ar cells size answers s e n symbols goal before predicate terms after
+  pub calls : Calls ar cells call n symbols goal before predicate terms after
   pub about : About clause symbols predicate clause'
 
 -- The answer is the derived goal: its words are at the start of `child`; or it exceeds 1,024 words; or there is none.

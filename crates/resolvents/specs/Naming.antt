@@ -43,6 +43,11 @@ pub record Named (names order : List ℕ) (m : ℕ) : Type 0 where
   pub given : (v : ℕ) → v < length names → get_or names v 0 ≡ name_in (take m order) v
   pub numbered : (i : ℕ) → i < m → get_or names (get_or order i 0) 0 ≡ i
 
+-- v is named: its number is k
+pub record Numbered (names : List ℕ) (v k : ℕ) : Type 0 where
+  pub taken : get_or names v 0 ≡ 65535 → ⊥
+  pub is : k ≡ get_or names v 0
+
 -- The variables named after the terms ts: xs, and then those that are new, in order of first appearance.
 abbrev pub order_after : List ℕ → Terms → List ℕ
 order_after xs ts = appearing xs (vars_terms ts [])

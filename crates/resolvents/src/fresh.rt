@@ -5,15 +5,17 @@ ghost use Rattle.rules.specs.Syntax.{Symbol, Goal, top_goal};
 ghost use Rattle.resolvents.specs.Variables.{fresh_cell};
 ghost use Rattle.resolvents.specs.Selecting.{GoalCells};
 
+use matching::cells::VARIABLE;
+
 // The least number above every variable of a goal.
 pub fn variables(cells: &[u16]) -> usize
     ensures { (ar : List ℕ) (answers : ℕ) (S : List Symbol) (g : Goal) → GoalCells ar cells.now answers S g → result ≡ top_goal g }
 {
     let mut top = 0;
     for &cell in cells {
-        let c = cell as usize;
-        if 32768 + top <= c {
-            top = c - 32768 + 1;
+        let c = usize::from(cell);
+        if usize::from(VARIABLE) + top <= c {
+            top = c - usize::from(VARIABLE) + 1;
         }
     }
     top
@@ -26,6 +28,6 @@ pub fn copy_fresh(clause: &[u16], cells: &mut [u16], to: usize, n: u16)
     ensures { cells.new ≡ sets cells.old to (map (fresh_cell n) clause.now) }
 {
     for (i, &c) in clause.iter().enumerate() {
-        cells[to + i] = if c < 32768 { c } else { c + n };
+        cells[to + i] = if c < VARIABLE { c } else { c + n };
     }
 }

@@ -1,17 +1,22 @@
 // Writing terms as they are after a matching, with new variable numbers in order of first appearance.
-ghost use Rattle.std.specs.Prelude.{◌≡◌, ◌+◌, ◌≤◌, ◌<◌, length, Ok};
+ghost use Rattle.std.specs.Prelude.{◌≡◌, ◌+◌, ◌≤◌, ◌<◌, length, get_or, IsNone, IfSome, Ok};
 ghost use Rattle.rules.specs.Terms.{var, nil, cons};
-ghost use Rattle.resolvents.specs.Naming.{Named, Wrote, first_by, all_by, alone_by};
+ghost use Rattle.resolvents.specs.Naming.{Named, Numbered, Wrote, first_by, all_by, alone_by};
 
 use matching::bindings::Bound;
-use matching::cells::arity_of;
+use matching::cells::VARIABLE;
 
-// The words of the goal that is written; the number of each of 1,280 variables, or 65535; and the variables that have a number, in order:
+// No variable has this number, since they are fewer.
+const UNNAMED: u16 = u16::MAX;
+
+// The words of the goal that is written; the number of each of 1,280 variables, or UNNAMED; and the variables that have a number, in order:
 // the first `named` entries.
 #[derive(Drop)]
 pub struct Draft {
     pub child: [u16; 1024],
+    // With `Option<u16>`, as at matching's `Table`: as many entries, and 2,490 instructions more.
     pub names: [u16; 1280],
+    // The kit's `ArrayVec` has the same two fields as `order` and `named`: a crate more, for one push.
     pub order: [u16; 1280],
     pub named: usize,
     ghost numbered: { Named names order named },
@@ -28,28 +33,41 @@ impl Draft {
     {
         Draft {
             child: [0; 1024],
-            names: [65535; 1280],
+            names: [UNNAMED; 1280],
             order: [0; 1280],
             named: 0,
         }
     }
 
-    // Writes the variable v, with the next number if it has none.
-    fn put_variable(&mut self, v: usize, to: usize)
+    // The number of the variable v.
+    fn number(&self, v: u16) -> Option<u16>
+        requires { v < length self.now.names }
+        ensures none { IsNone result → get_or self.now.names v 0 ≡ 65535 }
+        ensures some { IfSome result (Numbered self.now.names v) }
+    {
+        let number = self.names[usize::from(v)];
+        if number == UNNAMED {
+            None
+        } else {
+            Some(number)
+        }
+    }
+
+    // Writes the variable v, with the next number if it has none. The number fits, so `try_from` would give an error that cannot come.
+    fn put_variable(&mut self, v: u16, to: usize)
         requires v_in_bounds { v < length self.old.names }
         requires to_in_bounds { to < length self.old.child }
         ensures { Wrote self.old.child self.old.order to self.old.named (cons (var v) nil) self.new.child self.new.names self.new.order self.new.named (Ok (to + 1)) }
     {
-        let k = self.names[v];
-        if k == 65535 {
-            let number = self.named as u16;
-            self.names[v] = number;
-            self.order[self.named] = v as u16;
-            self.child[to] = 32768 + number;
-            self.named += 1;
-        } else {
-            self.child[to] = 32768 + k;
+        if let Some(k) = self.number(v) {
+            self.child[to] = VARIABLE + k;
+            return;
         }
+        let number = self.named as u16;
+        self.names[usize::from(v)] = number;
+        self.order[self.named] = v;
+        self.child[to] = VARIABLE + number;
+        self.named += 1;
     }
 
     // Writes the first `number` of the terms that the cells from p up to `end` hold, as they are after the replacements, from `to` on. The
@@ -79,10 +97,10 @@ impl Draft {
             }
             todo -= 1;
             let c = bound.terms.cells[i];
-            if c < 32768 {
+            if c < VARIABLE {
+                todo += bound.terms.arity(i);
                 self.child[at] = c;
                 at += 1;
-                todo += arity_of(bound.terms.symbols, c as usize);
             } else {
                 at = self.put_value(bound, i, at)?;
             }
@@ -99,12 +117,12 @@ impl Draft {
     {
         let q = bound.resolve(p);
         let c = bound.terms.cells[q];
-        if 32768 <= c {
-            self.put_variable((c - 32768) as usize, to);
+        if VARIABLE <= c {
+            self.put_variable(c - VARIABLE, to);
             return Ok(to + 1);
         }
+        let arity = bound.terms.arity(q);
         self.child[to] = c;
-        let arity = arity_of(bound.terms.symbols, c as usize);
         self.put_terms(bound, q + 1, bound.terms.cells.len(), arity, to + 1)
     }
 
@@ -128,10 +146,9 @@ impl Draft {
         ensures none_named { self.new.named ≡ 0 }
         ensures child_unchanged { self.new.child ≡ self.old.child }
     {
-        for i in (0..self.named).rev() {
-            let v = self.order[i] as usize;
-            self.names[v] = 65535;
-            self.named = i;
+        for &v in self.order[..self.named].iter().rev() {
+            self.names[usize::from(v)] = UNNAMED;
         }
+        self.named = 0;
     }
 }

@@ -1,25 +1,27 @@
-// The derived goal of a goal's selected literal and a clause.
-ghost use Rattle.std.specs.Prelude.{◌≡◌, ℕ, ◌+◌, ◌≤◌, ◌<◌, List, length, take, Some};
-ghost use Rattle.rules.specs.Terms.{Terms};
+// The derived goal of a goal's selected literal and a clause. Numbers of at most 1,024 are made words by `as`: they are proved to fit, and
+// `u16::try_from` would have an `Err` that never comes.
+ghost use Rattle.std.specs.Prelude.{◌≡◌, ℕ, ◌+◌, ◌≤◌, ◌<◌, true, false, List, length, take, get_or, IfSome};
+ghost use Rattle.rules.specs.Terms.{Terms, count};
 ghost use Rattle.rules.specs.Syntax.{Symbol, Literal, Clause, Goal};
-ghost use Rattle.std.proofs.Math.Option.{none};
-ghost use Rattle.rules.specs.Unification.{unify};
-ghost use Rattle.rules.specs.Resolution.{resolvent};
+ghost use Rattle.rules.specs.Decks.{write_clause};
+ghost use Rattle.rules.specs.Unification.{unify, fails};
+ghost use Rattle.rules.specs.Resolution.{fresh, resolvent};
 ghost use Rattle.matching.specs.Taking.{take_t};
 ghost use Rattle.matching.specs.Cells.{from};
 ghost use Rattle.matching.specs.Outcomes.{Ended};
 ghost use Rattle.resolvents.specs.Naming.{within, all_by};
-ghost use Rattle.resolvents.specs.Deriving.{Rows, Calls, About, SomeCall, equations_of, IsAttempt};
+ghost use Rattle.resolvents.specs.Deriving.{Rows, Calls, About, SomeGoalCall, SomeCall, leading_symbol, equations_of, IsAttempt};
 ghost use Rattle.resolvents.specs.Child.{literals_by, Ranges, GoalWritten, IsChild, AttemptedBy, literals_before, Together};
 
 use crate::fresh::copy_fresh;
 use crate::put::{Draft, Full};
 use crate::workspace::Workspace;
 use matching::bindings::{Bound, Table};
-use matching::cells::{FlatTerms, arity_of, differ};
+use matching::cells::{FlatTerms, VARIABLE, arity_of};
 use matching::unify::{Failure, unify_terms};
 
-// No derived goal; the number of its words; or it is over 1,024 words.
+// No derived goal; the number of its words; or it is over 1,024 words. `Nothing` is no `None`, since this stands in an `Option` already, and
+// `Option<(Option<Result<usize, Full>>, u32)>` leaves a reader to find out which `None` is which.
 #[derive(Clone, Copy, Debug, PartialEq, Eq)]
 pub enum Resolved {
     Nothing,
@@ -36,46 +38,80 @@ pub struct Call {
     pub e: usize,
 }
 
-// Writes the cells of the derived goal from place 2 on: its answer terms; the literals before the selected one; those after it; and the
-// clause's body, from place `body` on. The result is the place after them, and how many are the answer terms'.
-fn put_goal(
-    bound: &Bound,
-    call: Call,
-    body: usize,
-    draft: &mut Draft,
-) -> Result<(usize, usize), Full>
-    requires inside { call.len ≤ length bound.now.terms.cells.now }
-    requires ranges { Ranges bound.now.terms.cells.now call.len call.answers call.s call.e body }
-    ensures { GoalWritten draft.old.child draft.old.order draft.old.named (all_by bound.now 0 call.answers) (literals_by bound.now call body) draft.new.child draft.new.names draft.new.order draft.new.named result }
-{
-    let first = draft.put_range(bound, 0, call.answers, 2)?;
-    let before = draft.put_range(bound, call.answers, call.s, first)?;
-    let after = draft.put_range(bound, call.e, call.len, before)?;
-    let end = draft.put_range(bound, body, bound.terms.cells.len(), after)?;
-    Ok((end, first - 2))
-}
-
-// Writes the derived goal: its answer terms, its literals, and the two first words.
-fn write_child(bound: &Bound, call: Call, body: usize, draft: &mut Draft) -> Resolved
-    requires none_before { draft.old.named ≡ 0 }
-    requires inside { call.len ≤ length bound.now.terms.cells.now }
-    requires ranges { Ranges bound.now.terms.cells.now call.len call.answers call.s call.e body }
-    ensures child { IsChild (all_by bound.now 0 call.answers) (literals_by bound.now call body) draft.new.child result }
-    ensures none_after { draft.new.named ≡ 0 }
-{
-    let written = put_goal(bound, call, body, draft);
-    draft.forget();
-    match written {
-        Ok((end, width)) => {
-            draft.child[0] = end as u16;
-            draft.child[1] = width as u16;
-            Resolved::Child(end)
+impl Call {
+    // The symbol that the literal's first argument begins with: none where there is no argument, or a variable.
+    pub fn first_symbol(self, symbols: &[u16], cells: &[u16]) -> Option<u16>
+        requires { SomeGoalCall symbols.now cells.now self }
+        ensures { (S : List Symbol) (g : Goal) (before : List Literal) (p : ℕ) (ts : Terms) (after : List Literal) (n : ℕ) → Calls symbols.now cells.now self n S g before p ts after → result ≡ leading_symbol ts }
+    {
+        if arity_of(symbols, usize::from(cells[self.s])) == 0 {
+            return None;
         }
-        Err(Full) => Resolved::Oversized,
+        let first = cells[self.s + 1];
+        if VARIABLE <= first {
+            return None;
+        }
+        Some(first)
     }
 }
 
-// The cells are those of the goal and then those of the clause.
+// Whether a clause's first argument begins with another symbol than `first`. It then fails at its first equation.
+pub fn begins_otherwise(first: Option<u16>, clause: &[u16]) -> bool
+    requires { IfSome first (λ f. 1 < length clause.now) }
+    ensures fails { result ≡ true → (ts : Terms) (c : Clause) (n : ℕ) → first ≡ leading_symbol ts → count ts ≡ count c.arguments → clause.now ≡ write_clause c → unify ts (fresh n c.arguments) ≡ fails 1 }
+    ensures goes_on { result ≡ false → IfSome first (λ f. get_or clause.now 1 0 < 32768 → get_or clause.now 1 0 ≡ f) }
+{
+    match first {
+        Some(first) => clause[1] < VARIABLE && clause[1] != first,
+        None => false,
+    }
+}
+
+// What a derived goal is written from: the bindings over the cells of a goal and then of a clause, the call, and where the clause's body begins.
+#[derive(Clone, Copy)]
+struct Origin<'a> {
+    bound: Bound<'a>,
+    call: Call,
+    body: usize,
+    ghost ranges: { Ranges bound.terms.cells.now call body },
+}
+
+impl Origin<'_> {
+    // Writes the cells of the derived goal from place 2 on: its answer terms; the literals before the selected one; those after it; and
+    // the clause's body. The result is the place after them, and how many are the answer terms'.
+    fn put_goal(&self, draft: &mut Draft) -> Result<(usize, usize), Full>
+        ensures { GoalWritten draft.old.child draft.old.order draft.old.named (all_by self.now.bound 0 self.now.call.answers) (literals_by self.now.bound self.now.call self.now.body) draft.new.child draft.new.names draft.new.order draft.new.named result }
+    {
+        let bound = &self.bound;
+        let call = self.call;
+        let first = draft.put_range(bound, 0, call.answers, 2)?;
+        let before = draft.put_range(bound, call.answers, call.s, first)?;
+        let after = draft.put_range(bound, call.e, call.len, before)?;
+        let end = draft.put_range(bound, self.body, bound.terms.cells.len(), after)?;
+        Ok((end, first - 2))
+    }
+
+    // Writes the derived goal: its answer terms, its literals, and the two first words.
+    fn write_child(&self, draft: &mut Draft) -> Resolved
+        requires none_before { draft.old.named ≡ 0 }
+        ensures child { IsChild (all_by self.now.bound 0 self.now.call.answers) (literals_by self.now.bound self.now.call self.now.body) draft.new.child result }
+        ensures none_after { draft.new.named ≡ 0 }
+    {
+        let written = self.put_goal(draft);
+        draft.forget();
+        match written {
+            Ok((end, width)) => {
+                draft.child[0] = end as u16;
+                draft.child[1] = width as u16;
+                Resolved::Child(end)
+            }
+            Err(Full) => Resolved::Oversized,
+        }
+    }
+}
+
+// The cells are those of the goal and then those of the clause. Cells and symbols stay two: with a `FlatTerms` from the caller it stayed open
+// there that the workspace's cells are kept (`returns-clause-cells_unchanged`). Table and draft too: the cells of their workspace are lent meanwhile.
 fn resolve_cells(
     cells: &[u16],
     symbols: &[u16],
@@ -85,9 +121,9 @@ fn resolve_cells(
     table: &mut Table,
     draft: &mut Draft,
 ) -> Option<(Resolved, u32)>
-    requires together { Together symbols.now cells.now call.len call.answers call.s call.e number }
+    requires together { Together symbols.now cells.now call number }
     requires rows { Rows table.old draft.old }
-    ensures attempted_by { AttemptedBy (unify (take_t number (from symbols.now cells.now (call.s + 1))) (take_t number (from symbols.now cells.now (call.len + 1)))) left (within symbols.now cells.now 0 call.answers) (literals_before symbols.now cells.now call.len call.answers call.s call.e) draft.new.child result }
+    ensures attempted_by { AttemptedBy (unify (take_t number (from symbols.now cells.now (call.s + 1))) (take_t number (from symbols.now cells.now (call.len + 1)))) left (within symbols.now cells.now 0 call.answers) (literals_before symbols.now cells.now call) draft.new.child result }
     ensures rows_after { Rows table.new draft.new }
 {
     let terms = FlatTerms { cells, symbols };
@@ -97,27 +133,18 @@ fn resolve_cells(
         Ok(rest) => {
             let body = terms.skip(len);
             let bound = Bound { terms, table };
-            let written = write_child(&bound, call, body, draft);
+            let written = Origin { bound, call, body }.write_child(draft);
             table.undo();
             Some((written, rest))
         }
-        Err(Failure::Failed(rest)) => {
+        Err(why) => {
             table.undo();
-            Some((Resolved::Nothing, rest))
-        }
-        Err(Failure::Broken) => {
-            table.undo();
-            None
+            match why {
+                Failure::Failed(rest) => Some((Resolved::Nothing, rest)),
+                Failure::Broken => None,
+            }
         }
     }
-}
-
-// A unification that fails at its first equation.
-fn fails_at_once(left: u32) -> Option<(Resolved, u32)>
-    ensures { (child : List ℕ) → IsAttempt none 1 left child result }
-{
-    let rest = left.checked_sub(1)?;
-    Some((Resolved::Nothing, rest))
 }
 
 // The derived goal of the call and a clause, with at most `left` equations, and what is left after those of the unification; or the
@@ -130,40 +157,17 @@ pub fn resolve_clause(
     clause: &[u16],
     left: u32,
 ) -> Option<(Resolved, u32)>
-    requires { SomeCall symbols.now work.old.cells.now clause.now call.len call.answers call.s call.e n }
-    ensures attempt { (S : List Symbol) (g : Goal) (before : List Literal) (p : ℕ) (ts : Terms) (after : List Literal) (c : Clause) → Calls symbols.now work.old.cells.now call.len call.answers call.s call.e n S g before p ts after → About clause.now S p c → IsAttempt (resolvent n g.answers before ts after c) (equations_of n ts c) left work.new.draft.child result }
+    requires { SomeCall symbols.now work.old.cells.now clause.now call n }
+    ensures attempt { (S : List Symbol) (g : Goal) (before : List Literal) (p : ℕ) (ts : Terms) (after : List Literal) (c : Clause) → Calls symbols.now work.old.cells.now call n S g before p ts after → About clause.now S p c → IsAttempt (resolvent n g.answers before ts after c) (equations_of n ts c) left work.new.draft.child result }
     ensures cells_unchanged { take call.len work.new.cells.now ≡ take call.len work.old.cells.now }
 {
-    let table = &mut work.table;
-    let draft = &mut work.draft;
-    resolve_parts(symbols, work.cells, call, n, clause, left, table, draft)
-}
-
-// The same over the parts of the workspace: what a proof knows of `work.cells` is lost where a part of it and `work.table` are lent at once.
-fn resolve_parts(
-    symbols: &[u16],
-    cells: &mut [u16],
-    call: Call,
-    n: usize,
-    clause: &[u16],
-    left: u32,
-    table: &mut Table,
-    draft: &mut Draft,
-) -> Option<(Resolved, u32)>
-    requires some_call { SomeCall symbols.now cells.old clause.now call.len call.answers call.s call.e n }
-    requires rows { Rows table.old draft.old }
-    requires room { 8192 ≤ length cells.old }
-    ensures attempt { (S : List Symbol) (g : Goal) (before : List Literal) (p : ℕ) (ts : Terms) (after : List Literal) (c : Clause) → Calls symbols.now cells.old call.len call.answers call.s call.e n S g before p ts after → About clause.now S p c → IsAttempt (resolvent n g.answers before ts after c) (equations_of n ts c) left draft.new.child result }
-    ensures rows_after { Rows table.new draft.new }
-    ensures cells_unchanged { take call.len cells.new ≡ take call.len cells.old }
-{
-    let s = call.s;
-    let len = call.len;
-    let number = arity_of(symbols, cells[s] as usize);
-    if 0 < number && differ(cells[s + 1], clause[1]) {
-        return fails_at_once(left);
-    }
+    let Call { len, s, .. } = call;
+    let number = arity_of(symbols, usize::from(work.cells[s]));
+    let cells = &mut *work.cells;
     copy_fresh(clause, cells, len, n as u16);
     let total = len + clause.len();
+    let cells: &[u16] = cells;
+    let table = &mut work.table;
+    let draft = &mut work.draft;
     resolve_cells(&cells[..total], symbols, call, number, left, table, draft)
 }

@@ -5,9 +5,10 @@ ghost use Rattle.rules.specs.Resolution.{select};
 ghost use Rattle.resolvents.specs.Variables.{variables_in, NoneOf};
 ghost use Rattle.resolvents.specs.Selecting.{GoalCells, SomeGoal, Selects};
 
-use matching::cells::FlatTerms;
+use matching::cells::{FlatTerms, NEGATED, VARIABLE};
 
-// Nothing, or the place where a positive or a negative literal stands, and the place after it.
+// Nothing, or the place where a positive or a negative literal stands, and the place after it. The rules' `select` answers one of the same
+// three, and the one caller matches them at once, so that no `Option` is passed on.
 #[derive(Clone, Copy, Debug, PartialEq, Eq)]
 pub enum Selected {
     Nothing,
@@ -19,7 +20,7 @@ pub enum Selected {
 fn ground(cells: &[u16]) -> bool
     ensures { NoneOf (variables_in cells.now) result }
 {
-    cells.iter().all(|&c| c < 32768)
+    cells.iter().all(|&c| c < VARIABLE)
 }
 
 // The leftmost literal that is positive, or negative without variables. The literals begin at place `answers`.
@@ -29,10 +30,10 @@ pub fn select_literal(cells: &[u16], symbols: &[u16], answers: usize) -> Selecte
 {
     let terms = FlatTerms { cells, symbols };
     let mut at = answers;
-    // The place moves by a literal's length, which no range steps by.
+    // An iterator of literals would be a struct with ghost members of its own, for this one loop.
     while at < cells.len() {
         let end = terms.skip(at);
-        if cells[at] < 16384 {
+        if cells[at] < NEGATED {
             return Selected::Positive(at, end);
         }
         if ground(&cells[at..end]) {

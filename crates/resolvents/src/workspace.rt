@@ -19,13 +19,12 @@ pub struct Workspace<'a> {
 impl<'a> Workspace<'a> {
     pub fn new(cells: &'a mut [u16]) -> Workspace<'a>
         requires { 8192 ≤ length cells.old }
+        ensures { result.cells.now ≡ cells.old }
     {
-        let table = Table::new();
-        let draft = Draft::new();
         Workspace {
             cells,
-            table,
-            draft,
+            table: Table::new(),
+            draft: Draft::new(),
         }
     }
 

@@ -1,4 +1,4 @@
-// What the symbol words of a deck say of its symbols: the one place that knows how they are laid out.
+// What the symbol words of a deck say of its symbols: each is an arity, plus 256 for a predicate.
 #![tactic(auto)]
 
 ghost use Rattle.std.specs.Prelude.{◌<◌, ◌≡◌};

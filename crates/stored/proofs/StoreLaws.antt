@@ -29,15 +29,6 @@ use Rattle.stored.specs.Passing.{no_predicate, leads, lead, mark_fits, fits_as, 
 use Rattle.stored.specs.Before.{before}
 
 -- MARKS
-pub mark-none : (parked : Bool) (mark : ℕ) → parked ≡ true → mark ≡ 0 → false ≡ mark_fits parked mark
-mark-none parked mark p z = rw (p, z)
-
-pub mark-parked : (parked : Bool) (mark : ℕ) → parked ≡ true → (mark ≡ 0 → ⊥) → leb mark 4 ≡ mark_fits parked mark
-mark-parked parked mark p z = rw (p, le-leb 1 mark (omega arith))
-
-pub mark-pending : (parked : Bool) (mark : ℕ) → parked ≡ false → eqb mark 0 ≡ mark_fits parked mark
-mark-pending parked mark p = rw p
-
 mark-few : (m : Mark) → leb (mark_number m) 4 ≡ true
 unfolding mark_number
 mark-few pending = refl

@@ -9,13 +9,7 @@ use Rattle.rules.specs.Stored.{pending_fits, parked_fits, every, OpenGoals, read
 use Rattle.deck.specs.declared.kinds.Kind.{Kind}
 use Rattle.deck.specs.declared.kinds.Kind.TheVariants.{Variable, Function, Positive, Negative, Invalid}
 use Rattle.deck.specs.Kinds.{kind_of}
-use Rattle.deck.specs.Scan.{scan_cell}
 use Rattle.stored.specs.Before.{before}
-
--- One cell with `room` cells after it: how the scan goes on, or that it does not pass, if the cells after it cannot hold more than `room` terms.
-abbrev pub Stepped : ℕ → Kind → ℕ → ℕ → Option (ℕ × ℕ) → Type 0
-Stepped room kind todo next (Some p) = (p.0 ≤ room) × (p.1 ≤ next + 1) × ((go : ℕ → ℕ → Bool) → scan_cell kind todo next go ≡ go p.0 p.1)
-Stepped room kind todo next None = (go : ℕ → ℕ → Bool) → ((t n : ℕ) → room < t → go t n ≡ false) → scan_cell kind todo next go ≡ false
 
 -- Whether a cell is no predicate's.
 abbrev pub no_predicate : Kind → Bool

@@ -4,78 +4,14 @@
 ghost use Rattle.std.specs.Prelude.{◌+◌, ◌≤◌, ◌≡◌, true, ◌&&◌, length, eqb};
 ghost use Rattle.rules.specs.Syntax.{Deck};
 ghost use Rattle.rules.specs.Refusals.{accepted};
-ghost use Rattle.rules.specs.Decks.{header_fits, open_deck};
+ghost use Rattle.rules.specs.Decks.{open_deck};
 ghost use Rattle.deck.specs.Kinds.{symbols_of};
 ghost use Rattle.deck.specs.Scan.{scan};
-ghost use Rattle.deck.specs.declared.kinds.Kind.TheVariants.{Positive};
-ghost use Rattle.stored.specs.Passing.{Stepped, lead, fits_as, mark_fits, leads, GoalFound, GoalsFound, OpenFound};
+ghost use Rattle.stored.specs.Passing.{lead, fits_as, mark_fits, leads, GoalFound, GoalsFound, OpenFound};
 
 use deck::kinds::Kind;
-use deck::{kinds, parts};
-
-// One cell, with `room` cells after it, where `todo` terms are to come and `next` variables have appeared: the two numbers after it, or none where no such cell may stand.
-fn step(kind: Kind, room: usize, todo: usize, next: usize) -> Option<(usize, usize)>
-    requires { (next ≤ 1022) × (todo ≤ room + 1) }
-    ensures { Stepped room kind todo next result }
-{
-    match kind {
-        Kind::Variable(v) => {
-            if todo == 0 {
-                return None;
-            }
-            if next < v {
-                return None;
-            }
-            Some((todo - 1, next.max(v + 1)))
-        }
-        Kind::Function(k) => {
-            if todo == 0 {
-                return None;
-            }
-            if room - (todo - 1) < k {
-                return None;
-            }
-            Some((k + (todo - 1), next))
-        }
-        Kind::Positive(k) => predicate(k, room, todo, next),
-        Kind::Negative(k) => predicate(k, room, todo, next),
-        Kind::Invalid => None,
-    }
-}
-
-// A predicate's cell, negated or not.
-fn predicate(arity: usize, room: usize, todo: usize, next: usize) -> Option<(usize, usize)>
-    ensures { Stepped room (Positive arity) todo next result }
-{
-    if 0 < todo {
-        return None;
-    }
-    if room < arity {
-        return None;
-    }
-    Some((arity, next))
-}
-
-// So many terms and then literals, numbered in order of first appearance.
-fn row(symbols: &[u16], cells: &[u16], terms: u64) -> bool
-    requires { length cells.now ≤ 1022 }
-    ensures { result ≡ scan (symbols_of symbols.now) cells.now terms 0 }
-{
-    if (cells.len() as u64) < terms {
-        return false;
-    }
-    let mut todo = terms as usize;
-    let mut next = 0;
-    for (at, cell) in cells.iter().enumerate() {
-        let kind = kinds::read(symbols, *cell);
-        let Some((t, n)) = step(kind, cells.len() - at - 1, todo, next) else {
-            return false;
-        };
-        todo = t;
-        next = n;
-    }
-    true
-}
+use deck::parts::Parts;
+use deck::{kinds, terms};
 
 // Whether a cell is no predicate's.
 fn leads(symbols: &[u16], cell: u16) -> bool
@@ -100,100 +36,114 @@ fn front(symbols: &[u16], cells: &[u16]) -> usize
 
 // The cells of a goal of so many answer terms, which take `answers` cells.
 fn cells_fit(symbols: &[u16], cells: &[u16], answers: usize, terms: u64) -> bool
-    requires { length cells.now ≤ 1022 }
     ensures { result ≡ (scan (symbols_of symbols.now) cells.now terms 0
         && eqb (lead (symbols_of symbols.now) cells.now) answers) }
 {
-    row(symbols, cells, terms) && front(symbols, cells) == answers
+    let Ok(terms) = usize::try_from(terms) else {
+        return false;
+    };
+    terms::row(symbols, cells, terms) && front(symbols, cells) == answers
 }
 
-// Pending goals are marked 0 and parked ones 1 to 4.
+// Whether a mark is a pending goal's, 0, or a parked goal's, 1 to 4: the numbers of `goals::Mark` in the store.
 fn mark_fits(mark: usize, parked: bool) -> bool
     ensures { result ≡ mark_fits parked mark }
 {
-    if parked {
-        1 <= mark && mark <= 4
-    } else {
-        mark == 0
+    match parked {
+        true => matches!(mark, 1..=4),
+        false => mark == 0,
     }
 }
 
-// The place after the goal at place `at`.
-// Five parameters and no type that holds them: a caller makes one call with them, and would make the value for it.
-fn goal(symbols: &[u16], store: &[u16], at: usize, terms: u64, parked: bool) -> Option<usize>
-    requires { at ≤ length store.now }
-    ensures { GoalFound (symbols_of symbols.now) (fits_as parked terms) store.now at result }
-{
-    if store.len() - at < 2 {
-        return None;
-    }
-    let first = usize::from(store[at]);
-    let answers = usize::from(store[at + 1]);
-    let n = first % 4096;
-    if !mark_fits(first / 4096, parked) {
-        return None;
-    }
-    if n < 2 {
-        return None;
-    }
-    if 1024 < n {
-        return None;
-    }
-    if store.len() - at < n {
-        return None;
-    }
-    let from = at + 2;
-    let end = at + n;
-    if !cells_fit(symbols, &store[from..end], answers, terms) {
-        return None;
-    }
-    Some(end)
-}
+// A goal's first word is its number of words plus its mark times this. Written here too: this crate does not stand on `goals`.
+const MARK: usize = 4096;
 
-// The place after `count` goals from place `at` on.
-fn goals(
-    symbols: &[u16],
-    store: &[u16],
-    at: usize,
-    count: u64,
+// A store of pending or of parked goals, each of so many answer terms, and the symbols by which they are read. A closure in place of
+// `parked` would have to say in both contracts which of the two tests it is.
+#[derive(Clone, Copy)]
+struct Store<'a> {
+    symbols: &'a [u16],
+    words: &'a [u16],
     terms: u64,
     parked: bool,
-) -> Option<usize>
-    requires { at ≤ length store.now }
-    ensures { GoalsFound (symbols_of symbols.now) (fits_as parked terms) store.now at count result }
-{
-    let mut place = at;
-    for _ in 0..count {
-        place = goal(symbols, store, place, terms, parked)?;
-    }
-    Some(place)
 }
 
-// The open goals, pending ones first: the place after those, and the place after the parked ones.
-pub fn open_goals(
-    symbols: &[u16],
-    store: &[u16],
-    pending: u64,
-    parked: u64,
-    terms: u64,
-) -> Option<(usize, usize)>
-    ensures { OpenFound (symbols_of symbols.now) store.now pending parked terms result }
+impl Store<'_> {
+    // The place after the goal at place `at`.
+    fn goal(&self, at: usize) -> Option<usize>
+        requires { at ≤ length self.now.words.now }
+        ensures { GoalFound (symbols_of self.now.symbols.now) (fits_as self.now.parked self.now.terms) self.now.words.now at result }
+    {
+        let words = self.words;
+        if words.len() - at < 2 {
+            return None;
+        }
+        let first = usize::from(words[at]);
+        let answers = usize::from(words[at + 1]);
+        let n = first % MARK;
+        if !mark_fits(first / MARK, self.parked) {
+            return None;
+        }
+        if n < 2 {
+            return None;
+        }
+        if 1024 < n {
+            return None;
+        }
+        if words.len() - at < n {
+            return None;
+        }
+        let from = at + 2;
+        let end = at + n;
+        if !cells_fit(self.symbols, &words[from..end], answers, self.terms) {
+            return None;
+        }
+        Some(end)
+    }
+
+    // The place after `count` goals from place `at` on.
+    fn goals(&self, at: usize, count: u64) -> Option<usize>
+        requires { at ≤ length self.now.words.now }
+        ensures { GoalsFound (symbols_of self.now.symbols.now) (fits_as self.now.parked self.now.terms) self.now.words.now at count result }
+    {
+        let mut place = at;
+        for _ in 0..count {
+            place = self.goal(place)?;
+        }
+        Some(place)
+    }
+}
+
+// What a store is said to begin with: so many pending goals and then so many parked ones, each of so many answer terms.
+#[derive(Clone, Copy)]
+pub struct OpenCounts {
+    pub pending: u64,
+    pub parked: u64,
+    pub terms: u64,
+}
+
+// The open goals, pending ones first: the place after those, and the place after the parked ones; a pair, which each caller takes apart at once.
+pub fn open_goals(symbols: &[u16], store: &[u16], counts: OpenCounts) -> Option<(usize, usize)>
+    ensures { OpenFound (symbols_of symbols.now) store.now counts.pending counts.parked counts.terms result }
 {
-    let middle = goals(symbols, store, 0, pending, terms, false)?;
-    let end = goals(symbols, store, middle, parked, terms, true)?;
+    let pending = Store {
+        symbols,
+        words: store,
+        terms: counts.terms,
+        parked: false,
+    };
+    let parked = Store {
+        parked: true,
+        ..pending
+    };
+    let middle = pending.goals(0, counts.pending)?;
+    let end = parked.goals(middle, counts.parked)?;
     Some((middle, end))
 }
 
-// The same over an opened deck.
-pub fn deck_goals(
-    deck: &[u16],
-    store: &[u16],
-    pending: u64,
-    parked: u64,
-    terms: u64,
-) -> Option<(usize, usize)>
-    requires { header_fits deck.now ≡ true }
-    ensures { (d : Deck) → open_deck deck.now ≡ accepted d → OpenFound d.symbols store.now pending parked terms result }
+// The same over a deck whose header fits.
+pub fn deck_goals(deck: &Parts, store: &[u16], counts: OpenCounts) -> Option<(usize, usize)>
+    ensures { (d : Deck) → open_deck deck.now.words.now ≡ accepted d → OpenFound d.symbols store.now counts.pending counts.parked counts.terms result }
 {
-    open_goals(parts::symbols(deck), store, pending, parked, terms)
+    open_goals(deck.symbols(), store, counts)
 }

@@ -8,7 +8,11 @@ use Rattle.text_rules.specs.TextGrammar.{is_key, same_bytes, fn_text, pr_text, h
 use Rattle.text.specs.declared.tokens.Kind.{Kind}
 use Rattle.text.specs.declared.tokens.Kind.TheVariants.{Name}
 use Rattle.text.specs.Kinds.{kind_of}
-use Rattle.text.specs.Steps.{depth_of}
+use Rattle.std.specs.Prelude.{Option, Some, None}
+use Rattle.std.specs.Option.{is_some}
+use Rattle.text.specs.declared.grammar.Key.{Key}
+use Rattle.text.specs.declared.grammar.Key.TheVariants.{Function, Predicate}
+use Rattle.text.specs.Steps.{depth_of, IsKey}
 
 -- The rules' test of two lists of bytes is the one of slices.
 pub same_pointwise : (xs ys : List ℕ) → same_bytes xs ys ≡ pointwise eqb xs ys
@@ -23,11 +27,27 @@ module _ (u : Token) (bs : List ℕ) (k : u.kind ≡ name) (b : u.bytes ≡ bs) 
   unfolding is_key fn_text pr_text
   key-tests = rw (k, b) (ap₂ ◌||◌ (same_pointwise bs (102 ∷ 110 ∷ [])) (same_pointwise bs (112 ∷ 114 ∷ [])))
 
-  pub first-key : pointwise eqb bs (102 ∷ 110 ∷ []) ≡ true → is_key u ≡ true
-  first-key e = key-tests ∙ rw e refl
+  is-fn : same_bytes u.bytes fn_text ≡ pointwise eqb bs (102 ∷ 110 ∷ [])
+  unfolding fn_text
+  is-fn = rw b (same_pointwise bs (102 ∷ 110 ∷ []))
 
-  pub second-key : pointwise eqb bs (102 ∷ 110 ∷ []) ≡ false → is_key u ≡ pointwise eqb bs (112 ∷ 114 ∷ [])
-  second-key e = key-tests ∙ rw e refl
+  pub first-key : pointwise eqb bs (102 ∷ 110 ∷ []) ≡ true → IsKey u (Some Function)
+  first-key e = (key-tests ∙ rw e refl, is-fn ∙ e)
+
+  second-tested : pointwise eqb bs (102 ∷ 110 ∷ []) ≡ false → is_key u ≡ pointwise eqb bs (112 ∷ 114 ∷ [])
+  second-tested e = key-tests ∙ rw e refl
+
+  pub second-key : pointwise eqb bs (102 ∷ 110 ∷ []) ≡ false → pointwise eqb bs (112 ∷ 114 ∷ []) ≡ true → IsKey u (Some Predicate)
+  second-key e f = (second-tested e ∙ f, is-fn ∙ e)
+
+  pub other-name : pointwise eqb bs (102 ∷ 110 ∷ []) ≡ false → pointwise eqb bs (112 ∷ 114 ∷ []) ≡ false → IsKey u None
+  other-name e f = second-tested e ∙ f
+
+-- Whether it is a key.
+pub key_tested : (u : Token) (r : Option Key) → IsKey u r → is_key u ≡ is_some r
+key_tested u (Some Function) e = e.0
+key_tested u (Some Predicate) e = e.0
+key_tested u None e = e
 
 pub no-key : (k : Kind) (u : Token) → (k ≡ Name → ⊥) → u.kind ≡ kind_of k → is_key u ≡ false
 unfolding is_key

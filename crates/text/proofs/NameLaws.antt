@@ -9,7 +9,8 @@ use Rattle.text_rules.specs.TextGrammar.{same_bytes}
 use Rattle.text.specs.declared.names.Entry.{Entry}
 use Rattle.text.specs.declared.names.Slot.{Slot}
 use Rattle.text.specs.Hash.{hash_of, last_with, found_at, in_bucket, is_name}
-use Rattle.text.specs.Names.{Table, no_entry, entry_at, name_at, entered, the_table, no_slot, slot_name, Chained}
+use Rattle.std.proofs.lemmas.List.{get_or-map}
+use Rattle.text.specs.Names.{Table, bytes_of, name_at, entered, entry_of, IsSlot, the_table, slot_name, Chained}
 
 -- A number that was found, or none.
 abbrev pub one_more : Option ℕ → ℕ
@@ -136,64 +137,82 @@ module _ (name : ℕ → List ℕ) (wanted : List ℕ) (n : ℕ) where
   pub chain-end : Chain 0 → last_with (is_name wanted) name n ≡ 0
   chain-end c = c.same
 
--- A name on the chain: number j.
-pub record Here (text : List ℕ) (slots : List Slot) (wanted : List ℕ) (n j : ℕ) (o : Option ℕ) : Type 0 where
-  pub size : one_more o ≡ suc j
-  pub chain : Chain (slot_name text slots) wanted n (suc j)
-  pub few : j < n
-  pub forward : (get_or slots j no_slot).entry.from ≤ (get_or slots j no_slot).entry.to
-  pub inside : (get_or slots j no_slot).entry.to ≤ length text
-  pub before : (get_or slots j no_slot).before ≡ found_at (last_with (in_bucket (hash_of 0 (slot_name text slots j))) (slot_name text slots) j)
+module _ {V : Type 0} where
+  pub slot-bytes : (text : List ℕ) (slots : List (Slot V)) (s : Slot V) (j : ℕ) → j < length slots → slot_name text slots j ≡ bytes_of text (entry_of (get_or slots j s))
+  slot-bytes text slots s j l = get_or-map (λ s. bytes_of text (entry_of s)) slots j s [] l
 
-pub here :
-    (text : List ℕ) (slots : List Slot) (heads : List (Option ℕ)) (n : ℕ) → Chained text slots heads n → (wanted : List ℕ) (o : Option ℕ) (k j : ℕ) → o ≡ Some k → j ≡ k
-    → Chain (slot_name text slots) wanted n (one_more o) → Here text slots wanted n j o
-here text slots heads n E wanted o k j e q c =
-    let s : one_more o ≡ suc j = ap one_more e ∙ ap suc (sym q) in
-    let d : Chain (slot_name text slots) wanted n (suc j) = subst (Chain (slot_name text slots) wanted n) s c in
-    let f : j < n = chain-few (slot_name text slots) wanted n j d in
-    record { size = s; chain = d; few = f; forward = E.forward j f; inside = E.inside j f; before = E.before j f }
+  pub entry-bytes : (t : Table V) (e : Entry V) (j : ℕ) → j < length t.entries → name_at t j ≡ bytes_of t.text (get_or t.entries j e)
+  entry-bytes t e j l = get_or-map (bytes_of t.text) t.entries j e [] l
 
--- What callers see of the slots.
-entry-of : (slots : List Slot) (n j : ℕ) → j < n → n ≤ length slots → get_or (map (λ s. s.entry) (take n slots)) j no_entry ≡ (get_or slots j no_slot).entry
-entry-of slots zero j h l = absurd (omega arith)
-entry-of [] (suc n) j h l = absurd (omega arith)
-entry-of (s ∷ slots) (suc n) zero h l = refl
-entry-of (s ∷ slots) (suc n) (suc j) h l = entry-of slots n j (omega arith) (omega arith)
+  -- A name on the chain: number j, in the slot s.
+  pub record Here (text : List ℕ) (slots : List (Slot V)) (wanted : List ℕ) (n j : ℕ) (o : Option ℕ) (s : Slot V) : Type 0 where
+    pub size : one_more o ≡ suc j
+    pub chain : Chain (slot_name text slots) wanted n (suc j)
+    pub bytes : slot_name text slots j ≡ bytes_of text (entry_of s)
+    pub forward : s.from ≤ s.to
+    pub inside : s.to ≤ length text
+    pub before : s.before ≡ found_at (last_with (in_bucket (hash_of 0 (slot_name text slots j))) (slot_name text slots) j)
 
-pub size-of : (slots : List Slot) (n : ℕ) → n ≤ length slots → length (map (λ s. s.entry) (take n slots)) ≡ n
-size-of slots zero l = refl
-size-of [] (suc n) l = absurd (omega arith)
-size-of (s ∷ slots) (suc n) l = ap suc (size-of slots n (omega arith))
+  module _ (N : ℕ) (text : List ℕ) (slots : List (Slot V)) (heads : List (Option ℕ)) (n : ℕ) (E : Chained N text slots heads n) (wanted : List ℕ) (o : Option ℕ) (k j : ℕ) (e : o ≡ Some k)
+      (q : j ≡ k) (c : Chain (slot_name text slots) wanted n (one_more o)) where
+    its-size : one_more o ≡ suc j
+    its-size = ap one_more e ∙ ap suc (sym q)
 
-pub same-name : (text : List ℕ) (slots : List Slot) (n j : ℕ) → j < n → n ≤ length slots → slot_name text slots j ≡ name_at (the_table text slots n) j
-same-name text slots n j h l = ap (λ e. slice_range text e.from e.to) (sym (entry-of slots n j h l))
+    on-chain : Chain (slot_name text slots) wanted n (suc j)
+    on-chain = subst (Chain (slot_name text slots) wanted n) its-size c
 
-pub chained-none : (text : List ℕ) (slots : List Slot) (heads : List (Option ℕ)) → length slots ≡ 4096 → length heads ≡ 1021 → ((h : ℕ) → h < 1021 → get_or heads h None ≡ None) → Chained text slots heads 0
-chained-none text slots heads l m f =
-    record { few = omega arith; room = l; buckets = m; forward = λ j l. absurd (omega arith); inside = λ j l. absurd (omega arith); head = f; before = λ j l. absurd (omega arith) }
+    pub one-taken : j < n
+    one-taken = chain-few (slot_name text slots) wanted n j on-chain
 
-pub seen : (text : List ℕ) (slots : List Slot) (n : ℕ) (wanted : List ℕ) → n ≤ length slots
-    → last_with (is_name wanted) (slot_name text slots) n ≡ last_with (is_name wanted) (name_at (the_table text slots n)) (length (the_table text slots n).entries)
-seen text slots n wanted l =
-    last-ext (is_name wanted) (slot_name text slots) (name_at (the_table text slots n)) n (λ j h. same-name text slots n j h l)
-    ∙ ap (last_with (is_name wanted) (name_at (the_table text slots n))) (sym (size-of slots n l))
+    pub here : (s : Slot V) → IsSlot slots j s → Here text slots wanted n j o s
+    here s is =
+        let x : get_or slots j s ≡ s = sym (is s) in
+        record {
+          size = its-size;
+          chain = on-chain;
+          bytes = slot-bytes text slots s j (omega (arith, one-taken, E.few, E.room)) ∙ ap (λ s. bytes_of text (entry_of s)) x;
+          forward = subst (λ (s : Slot V). s.from ≤ s.to) x (E.forward s j one-taken);
+          inside = subst (λ (s : Slot V). s.to ≤ length text) x (E.inside s j one-taken);
+          before = ap (λ (s : Slot V). s.before) (sym x) ∙ E.before s j one-taken;
+        }
 
--- A slot more.
-pub one-entered : (text : List ℕ) (slots : List Slot) (n : ℕ) (s : Slot) → n < length slots → the_table text (set slots n s) (n + 1) ≡ entered (the_table text slots n) s.entry
-one-entered text slots n s h = ap (λ es. record { text = text; entries = es }) (go slots n h)
-  where
-    go : (slots : List Slot) (n : ℕ) → n < length slots → map (λ s. s.entry) (take (n + 1) (set slots n s)) ≡ map (λ s. s.entry) (take n slots) ++ s.entry ∷ []
-    go [] n h = absurd (omega arith)
-    go (x ∷ xs) zero h = refl
-    go (x ∷ xs) (suc n) h = rw add-one (ap {B = List Entry} (x.entry ∷◌) (ap (λ m. map (λ s. s.entry) (take m (set xs n s))) (sym (add-one n)) ∙ go xs n (omega arith)))
+  -- What callers see of the slots.
+  pub size-of : (slots : List (Slot V)) (n : ℕ) → n ≤ length slots → length (map entry_of (take n slots)) ≡ n
+  size-of slots zero l = refl
+  size-of [] (suc n) l = absurd (omega arith)
+  size-of (s ∷ slots) (suc n) l = ap suc (size-of slots n (omega arith))
 
-module _ (text : List ℕ) (slots : List Slot) (heads : List (Option ℕ)) (n : ℕ) (E : Chained text slots heads n) (e : Entry) (h : ℕ) (room : n < 4096)
+  pub same-name : (text : List ℕ) (slots : List (Slot V)) (n j : ℕ) → j < n → n ≤ length slots → slot_name text slots j ≡ name_at (the_table text slots n) j
+  same-name text slots zero j h l = absurd (omega arith)
+  same-name text [] (suc n) j h l = absurd (omega arith)
+  same-name text (s ∷ slots) (suc n) zero h l = refl
+  same-name text (s ∷ slots) (suc n) (suc j) h l = same-name text slots n j (omega arith) (omega arith)
+
+  pub chained-none : (N : ℕ) (text : List ℕ) (slots : List (Slot V)) (heads : List (Option ℕ)) → N ≤ 65535 → length slots ≡ N → length heads ≡ 1021 → ((h : ℕ) → h < 1021 → get_or heads h None ≡ None) → Chained N text slots heads 0
+  chained-none N text slots heads k l m f =
+      record { most = k; few = omega arith; room = l; buckets = m; forward = λ s j l. absurd (omega arith); inside = λ s j l. absurd (omega arith); head = f; before = λ s j l. absurd (omega arith) }
+
+  pub seen : (text : List ℕ) (slots : List (Slot V)) (n : ℕ) (wanted : List ℕ) → n ≤ length slots
+      → last_with (is_name wanted) (slot_name text slots) n ≡ last_with (is_name wanted) (name_at (the_table text slots n)) (length (the_table text slots n).entries)
+  seen text slots n wanted l =
+      last-ext (is_name wanted) (slot_name text slots) (name_at (the_table text slots n)) n (λ j h. same-name text slots n j h l)
+      ∙ ap (last_with (is_name wanted) (name_at (the_table text slots n))) (sym (size-of slots n l))
+
+  -- A slot more.
+  pub one-entered : (text : List ℕ) (slots : List (Slot V)) (n : ℕ) (s : Slot V) → n < length slots → the_table text (set slots n s) (n + 1) ≡ entered (the_table text slots n) (entry_of s)
+  one-entered text slots n s h = ap (λ es. record { text = text; entries = es }) (go slots n h)
+    where
+      go : (slots : List (Slot V)) (n : ℕ) → n < length slots → map entry_of (take (n + 1) (set slots n s)) ≡ map entry_of (take n slots) ++ entry_of s ∷ []
+      go [] n h = absurd (omega arith)
+      go (x ∷ xs) zero h = refl
+      go (x ∷ xs) (suc n) h = rw add-one (ap {B = List (Entry V)} (entry_of x ∷◌) (ap (λ m. map entry_of (take m (set xs n s))) (sym (add-one n)) ∙ go xs n (omega arith)))
+
+module _ {V : Type 0} (N : ℕ) (text : List ℕ) (slots : List (Slot V)) (heads : List (Option ℕ)) (n : ℕ) (E : Chained N text slots heads n) (e : Entry V) (h : ℕ) (room : n < N)
     (forward : e.from ≤ e.to) (inside : e.to ≤ length text) (hash : h ≡ hash_of 0 (slice_range text e.from e.to)) (small : h < 1021) where
-  abbrev slot : Slot
-  slot = record { entry = e; before = get_or heads h None }
+  abbrev slot : Slot V
+  slot = record { from = e.from; to = e.to; value = e.value; before = get_or heads h None }
 
-  abbrev slots' : List Slot
+  abbrev slots' : List (Slot V)
   slots' = set slots n slot
 
   abbrev heads' : List (Option ℕ)
@@ -205,17 +224,23 @@ module _ (text : List ℕ) (slots : List Slot) (heads : List (Option ℕ)) (n : 
   abbrev name' : ℕ → List ℕ
   name' = slot_name text slots'
 
-  old-slot : (j : ℕ) → j < n → get_or slots' j no_slot ≡ get_or slots j no_slot
-  old-slot j l = get_or-set_other slots n j slot no_slot (λ q. omega arith)
+  old-slot : (s : Slot V) (j : ℕ) → j < n → get_or slots' j s ≡ get_or slots j s
+  old-slot s j l = get_or-set_other slots n j slot s (λ q. omega arith)
 
-  new-slot : get_or slots' n no_slot ≡ slot
-  new-slot = get_or-set_same slots n slot no_slot (omega (arith, E.room))
+  new-slot : (s : Slot V) → get_or slots' n s ≡ slot
+  new-slot s = get_or-set_same slots n slot s (omega (arith, E.room))
+
+  full : length slots' ≡ N
+  full = length-set slots n slot ∙ E.room
 
   old-name : (j : ℕ) → j < n → name j ≡ name' j
-  old-name j l = ap (λ s. slice_range text s.entry.from s.entry.to) (sym (old-slot j l))
+  old-name j l =
+      slot-bytes text slots slot j (omega (arith, E.room))
+      ∙ ap (λ s. bytes_of text (entry_of s)) (sym (old-slot slot j l))
+      ∙ sym (slot-bytes text slots' slot j (omega (arith, full)))
 
   new-name : name' n ≡ slice_range text e.from e.to
-  new-name = ap (λ s. slice_range text s.entry.from s.entry.to) new-slot
+  new-name = slot-bytes text slots' slot n (omega (arith, full)) ∙ ap (λ s. bytes_of text (entry_of s)) (new-slot slot)
 
   new-head : (g : ℕ) → g < 1021 → get_or heads' g None ≡ found_at (last_with (in_bucket g) name' (suc n))
   new-head g l = go (ℕ_discrete g h)
@@ -236,51 +261,68 @@ module _ (text : List ℕ) (slots : List Slot) (heads : List (Option ℕ)) (n : 
   at_last j l (yes p) = inl p
   at_last j l (no p) = inr (omega arith)
 
-  new-before : (j : ℕ) → (j < n) ⊎ (j ≡ n) → (get_or slots' j no_slot).before ≡ found_at (last_with (in_bucket (hash_of 0 (name' j))) name' j)
-  new-before j (inl l) =
-      ap (λ s. s.before) (old-slot j l)
-      ∙ E.before j l
+  new-before : (s : Slot V) (j : ℕ) → (j < n) ⊎ (j ≡ n) → (get_or slots' j s).before ≡ found_at (last_with (in_bucket (hash_of 0 (name' j))) name' j)
+  new-before s j (inl l) =
+      ap (λ (s : Slot V). s.before) (old-slot s j l)
+      ∙ E.before s j l
       ∙ ap (λ m. found_at (last_with (in_bucket (hash_of 0 m)) name j)) (old-name j l)
       ∙ ap found_at (last-ext (in_bucket (hash_of 0 (name' j))) name name' j (λ i k. old-name i (omega arith)))
-  new-before j (inr q) =
-      subst (λ j. (get_or slots' j no_slot).before ≡ found_at (last_with (in_bucket (hash_of 0 (name' j))) name' j)) (sym q)
-      (ap (λ s. s.before) new-slot
+  new-before s j (inr q) =
+      subst (λ j. (get_or slots' j s).before ≡ found_at (last_with (in_bucket (hash_of 0 (name' j))) name' j)) (sym q)
+      (ap (λ (s : Slot V). s.before) (new-slot s)
       ∙ E.head h small
       ∙ ap (λ g. found_at (last_with (in_bucket g) name n)) (hash ∙ ap (hash_of 0) (sym new-name))
       ∙ ap found_at (last-ext (in_bucket (hash_of 0 (name' n))) name name' n old-name))
 
-  new-forward : (j : ℕ) → (j < n) ⊎ (j ≡ n) → (get_or slots' j no_slot).entry.from ≤ (get_or slots' j no_slot).entry.to
-  new-forward j (inl l) = rw (old-slot j l) (E.forward j l)
-  new-forward j (inr q) = rw (q, new-slot) forward
+  new-forward : (s : Slot V) (j : ℕ) → (j < n) ⊎ (j ≡ n) → (get_or slots' j s).from ≤ (get_or slots' j s).to
+  new-forward s j (inl l) = rw (old-slot s j l) (E.forward s j l)
+  new-forward s j (inr q) = rw (q, new-slot s) forward
 
-  new-inside : (j : ℕ) → (j < n) ⊎ (j ≡ n) → (get_or slots' j no_slot).entry.to ≤ length text
-  new-inside j (inl l) = rw (old-slot j l) (E.inside j l)
-  new-inside j (inr q) = rw (q, new-slot) inside
+  new-inside : (s : Slot V) (j : ℕ) → (j < n) ⊎ (j ≡ n) → (get_or slots' j s).to ≤ length text
+  new-inside s j (inl l) = rw (old-slot s j l) (E.inside s j l)
+  new-inside s j (inr q) = rw (q, new-slot s) inside
 
-  pub chained-more : Chained text slots' heads' (n + 1)
+  pub chained-more : Chained N text slots' heads' (n + 1)
   chained-more =
       record {
+        most = E.most;
         few = omega arith;
-        room = length-set slots n slot ∙ E.room;
+        room = full;
         buckets = length-set heads h (Some n) ∙ E.buckets;
-        forward = λ j l. new-forward j (at_last j l (dec_lt j n));
-        inside = λ j l. new-inside j (at_last j l (dec_lt j n));
+        forward = λ s j l. new-forward s j (at_last j l (dec_lt j n));
+        inside = λ s j l. new-inside s j (at_last j l (dec_lt j n));
         head = λ g l. new-head g l ∙ ap (λ m. found_at (last_with (in_bucket g) name' m)) (sym (add-one n));
-        before = λ j l. new-before j (at_last j l (dec_lt j n));
+        before = λ s j l. new-before s j (at_last j l (dec_lt j n));
       }
 
--- The entries of a table with one more.
-pub entered-old : (t : Table) (e : Entry) (j : ℕ) → j < length t.entries → entry_at (entered t e) j ≡ entry_at t j
-entered-old t e j l = go t.entries j l
-  where
-    go : (es : List Entry) (j : ℕ) → j < length es → get_or (es ++ e ∷ []) j no_entry ≡ get_or es j no_entry
-    go [] j l = absurd (omega arith)
-    go (x ∷ es) zero l = refl
-    go (x ∷ es) (suc j) l = go es j (omega arith)
+-- The entries of a table with one more, and their names.
+module _ {V : Type 0} (t : Table V) (e : Entry V) where
+  pub entered-old : (d : Entry V) (j : ℕ) → j < length t.entries → get_or (entered t e).entries j d ≡ get_or t.entries j d
+  entered-old d j l = go t.entries j l
+    where
+      go : (es : List (Entry V)) (j : ℕ) → j < length es → get_or (es ++ e ∷ []) j d ≡ get_or es j d
+      go [] j l = absurd (omega arith)
+      go (x ∷ es) zero l = refl
+      go (x ∷ es) (suc j) l = go es j (omega arith)
 
-pub entered-new : (t : Table) (e : Entry) → entry_at (entered t e) (length t.entries) ≡ e
-entered-new t e = go t.entries
-  where
-    go : (es : List Entry) → get_or (es ++ e ∷ []) (length es) no_entry ≡ e
-    go [] = refl
-    go (x ∷ es) = go es
+  pub entered-new : (d : Entry V) → get_or (entered t e).entries (length t.entries) d ≡ e
+  entered-new d = go t.entries
+    where
+      go : (es : List (Entry V)) → get_or (es ++ e ∷ []) (length es) d ≡ e
+      go [] = refl
+      go (x ∷ es) = go es
+
+  pub old-name_at : (j : ℕ) → j < length t.entries → name_at (entered t e) j ≡ name_at t j
+  old-name_at j l = go t.entries j l
+    where
+      go : (es : List (Entry V)) (j : ℕ) → j < length es → get_or (map (bytes_of t.text) (es ++ e ∷ [])) j [] ≡ get_or (map (bytes_of t.text) es) j []
+      go [] j l = absurd (omega arith)
+      go (x ∷ es) zero l = refl
+      go (x ∷ es) (suc j) l = go es j (omega arith)
+
+  pub new-name_at : name_at (entered t e) (length t.entries) ≡ bytes_of t.text e
+  new-name_at = go t.entries
+    where
+      go : (es : List (Entry V)) → get_or (map (bytes_of t.text) (es ++ e ∷ [])) (length es) [] ≡ bytes_of t.text e
+      go [] = refl
+      go (x ∷ es) = go es

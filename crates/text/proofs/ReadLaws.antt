@@ -1,6 +1,6 @@
 -- Reading a text token by token.
-use Rattle.std.proofs.Common.{ℕ, ◌-◌, ◌≤◌, ◌<◌, ◌≡◌, List, ◌∷◌, length, take, drop, refl, ap, ◌∙◌, arith}
-use Rattle.std.proofs.Math.Option.{none, some}
+use Rattle.std.proofs.Common.{ℕ, ◌-◌, ◌≤◌, ◌<◌, ◌≡◌, List, ◌∷◌, length, take, drop, refl, ap, sym, ◌∙◌, arith}
+use Rattle.std.proofs.Math.Option.{Option, none, some, none-ne-some}
 use Rattle.text_rules.specs.TextTokens.{token, tokens}
 use Rattle.text_rules.specs.TextTokens as rules
 use Rattle.text_rules.specs.TextGrammar.{State, item, follows, next, unread}
@@ -44,9 +44,6 @@ module _ (text : List ℕ) (s : State) (at : ℕ) (r : Token) (n : Next text at 
         same = here ∙ unread-goes s u this (tokens_from r.kind text r.to) e ∙ ap (unread u) (not-ending r.kind text r.to f);
       }
 
-  pub read-forward : (r.kind ≡ Ending → ⊥) → length text - r.to < length text - at
-  read-forward f = omega (arith, n.later, n.progress f, n.inside)
-
   pub read_all : (u : State) → next (follows s) this ≡ some u → r.kind ≡ Ending → place_of text (unread item (tokens 0 text)) ≡ none
   unfolding place_of
   read_all u e f =
@@ -58,3 +55,8 @@ module _ (text : List ℕ) (s : State) (at : ℕ) (r : Token) (n : Next text at 
   read-stops e =
       let back : length text - (length text - r.from) ≡ r.from = omega (arith, n.forward, n.inside) in
       ap (place_of text) (here ∙ unread-stops s this (tokens_from r.kind text r.to) e) ∙ ap some back
+
+pub no_place : (text : List ℕ) (left : Option ℕ) → place_of text left ≡ none → left ≡ none
+unfolding place_of
+no_place text none e = refl
+no_place text (some n) e = absurd (none-ne-some (length text - n) (sym e))

@@ -335,6 +335,7 @@ module _ (text : List ℕ) (at from : ℕ) (s : Skipped text at from) where
         later = omega (arith, s.later, t.begins);
         forward = omega (arith, t.begins, t.later);
         progress = λ _. omega (arith, t.begins, t.later);
+        last = λ q. absurd (t.in_text q);
         inside = t.inside;
         scanned = rw (t.begins, not-ending r.kind text r.to t.in_text) all;
         number = λ m q. t.number m q ∙ ap (λ k. value 0 (take (r.to - k) (drop k text))) (sym t.begins);
@@ -351,6 +352,7 @@ module _ (text : List ℕ) (at from : ℕ) (s : Skipped text at from) where
         later = s.later;
         forward = omega arith;
         progress = λ f. absurd (f refl);
+        last = λ q. omega (arith, s.inside);
         inside = s.inside;
         scanned = s.same ∙ ap (tokens 0) e ∙ rw (z, w) refl;
         number = λ m q. cc;

@@ -5,43 +5,56 @@ use Rattle.text.specs.declared.names.Entry.{Entry}
 use Rattle.text.specs.declared.names.Slot.{Slot}
 use Rattle.text.specs.Hash.{hash_of, last_with, found_at, in_bucket}
 
--- A text, and the names entered, the first one first.
-pub record Table : Type 0 where
+-- A text, and the names entered, the first one first, each with its value.
+pub record Table (V : Type 0) : Type 0 where
   pub text : List ℕ
-  pub entries : List Entry
+  pub entries : List (Entry V)
 
-abbrev pub empty_table : List ℕ → Table
+abbrev pub empty_table : {V : Type 0} → List ℕ → Table V
 empty_table text = record { text = text; entries = [] }
 
-abbrev pub no_entry : Entry
+-- Entry j, where there are so many.
+abbrev pub IsEntry : {V : Type 0} → Table V → ℕ → Entry V → Type 0
+IsEntry {V} t j e = (d : Entry V) → e ≡ get_or t.entries j d
+
+-- The same where the values are numbers.
+abbrev pub no_entry : Entry ℕ
 no_entry = record { from = 0; to = 0; value = 0 }
 
-abbrev pub entry_at : Table → ℕ → Entry
+abbrev pub entry_at : Table ℕ → ℕ → Entry ℕ
 entry_at t j = get_or t.entries j no_entry
 
--- The bytes of name j.
-abbrev pub name_at : Table → ℕ → List ℕ
-name_at t j = slice_range t.text (entry_at t j).from (entry_at t j).to
+abbrev pub bytes_of : {V : Type 0} → List ℕ → Entry V → List ℕ
+bytes_of text e = slice_range text e.from e.to
 
-abbrev pub entered : Table → Entry → Table
+-- The bytes of name j.
+abbrev pub name_at : {V : Type 0} → Table V → ℕ → List ℕ
+name_at t j = get_or (map (bytes_of t.text) t.entries) j []
+
+abbrev pub entered : {V : Type 0} → Table V → Entry V → Table V
 entered t e = record { text = t.text; entries = t.entries ++ e ∷ [] }
 
+abbrev pub entry_of : {V : Type 0} → Slot V → Entry V
+entry_of s = record { from = s.from; to = s.to; value = s.value }
+
+-- Slot j, where there are so many.
+abbrev pub IsSlot : {V : Type 0} → List (Slot V) → ℕ → Slot V → Type 0
+IsSlot {V} slots j s = (d : Slot V) → s ≡ get_or slots j d
+
 -- The slots, of which the first n are taken.
-abbrev pub the_table : List ℕ → List Slot → ℕ → Table
-the_table text slots n = record { text = text; entries = map (λ s. s.entry) (take n slots) }
+abbrev pub the_table : {V : Type 0} → List ℕ → List (Slot V) → ℕ → Table V
+the_table text slots n = record { text = text; entries = map entry_of (take n slots) }
 
-abbrev pub no_slot : Slot
-no_slot = record { entry = no_entry; before = None }
-
-abbrev pub slot_name : List ℕ → List Slot → ℕ → List ℕ
-slot_name text slots j = slice_range text (get_or slots j no_slot).entry.from (get_or slots j no_slot).entry.to
+abbrev pub slot_name : {V : Type 0} → List ℕ → List (Slot V) → ℕ → List ℕ
+slot_name text slots j = get_or (map (λ s. bytes_of text (entry_of s)) slots) j []
 
 -- `heads` has the last name of each bucket, and a slot the one before it.
-pub record Chained (text : List ℕ) (slots : List Slot) (heads : List (Option ℕ)) (n : ℕ) : Type 0 where
-  pub few : n ≤ 4096
-  pub room : length slots ≡ 4096
+pub record Chained {V : Type 0} (N : ℕ) (text : List ℕ) (slots : List (Slot V)) (heads : List (Option ℕ)) (n : ℕ) : Type 0 where
+  pub most : N ≤ 65535
+  pub few : n ≤ N
+  pub room : length slots ≡ N
   pub buckets : length heads ≡ 1021
-  pub forward : (j : ℕ) → j < n → (get_or slots j no_slot).entry.from ≤ (get_or slots j no_slot).entry.to
-  pub inside : (j : ℕ) → j < n → (get_or slots j no_slot).entry.to ≤ length text
+  pub forward : (s : Slot V) (j : ℕ) → j < n → (get_or slots j s).from ≤ (get_or slots j s).to
+  pub inside : (s : Slot V) (j : ℕ) → j < n → (get_or slots j s).to ≤ length text
   pub head : (h : ℕ) → h < 1021 → get_or heads h None ≡ found_at (last_with (in_bucket h) (slot_name text slots) n)
-  pub before : (j : ℕ) → j < n → (get_or slots j no_slot).before ≡ found_at (last_with (in_bucket (hash_of 0 (slot_name text slots j))) (slot_name text slots) j)
+  pub before : (s : Slot V) (j : ℕ) → j < n → (get_or slots j s).before ≡ found_at (last_with (in_bucket (hash_of 0 (slot_name text slots j))) (slot_name text slots) j)

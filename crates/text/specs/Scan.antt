@@ -45,6 +45,7 @@ pub record Next (text : List ℕ) (at : ℕ) (r : Token) : Type 0 where
   pub later : at ≤ r.from
   pub forward : r.from ≤ r.to
   pub progress : (r.kind ≡ Ending → ⊥) → r.from < r.to
+  pub last : r.kind ≡ Ending → r.from ≡ length text
   pub inside : r.to ≤ length text
   pub scanned : tokens 0 (drop at text) ≡ token (kind_of r.kind) (take (r.to - r.from) (drop r.from text)) (length text - r.from) ∷ tokens_from r.kind text r.to
   pub number : (k : ℕ) → r.kind ≡ Number k → k ≡ value 0 (take (r.to - r.from) (drop r.from text))

@@ -1,13 +1,15 @@
 -- The states of the grammar as the code has them.
-use Rattle.std.specs.Prelude.{ℕ, ◌-◌, ◌≡◌, Bool, List, take, drop, Option, Some, None}
+use Rattle.std.specs.Prelude.{ℕ, ◌-◌, ◌≡◌, true, false, List, take, drop, Option, Some, None}
 use Rattle.std.proofs.Math.Option as math
 use Rattle.text_rules.specs.TextTokens as rules
-use Rattle.text_rules.specs.TextGrammar.{is_key, Part, head, body, item, keyed, declared, slashed, counted, clause, literal, negated, finished, term, named, after, Follow, next}
+use Rattle.text_rules.specs.TextGrammar.{is_key, same_bytes, fn_text, Part, head, body, item, keyed, declared, slashed, counted, clause, literal, negated, finished, term, named, after, Follow, next}
 use Rattle.text_rules.specs.TextGrammar as grammar
 use Rattle.text.specs.declared.tokens.Kind.{Kind}
 use Rattle.text.specs.declared.tokens.Token.{Token}
 use Rattle.text.specs.declared.grammar.Part as code
 use Rattle.text.specs.declared.grammar.Part.TheVariants.{Head, Body}
+use Rattle.text.specs.declared.grammar.Key.{Key}
+use Rattle.text.specs.declared.grammar.Key.TheVariants.{Function, Predicate}
 use Rattle.text.specs.declared.grammar.State.{State}
 use Rattle.text.specs.declared.grammar.State.TheVariants.{Item, Keyed, Declared, Slashed, Counted, Clause, Literal, Negated, Finished, Term, Named, After}
 use Rattle.text.specs.Kinds.{kind_of}
@@ -56,6 +58,12 @@ option_of None = math.none
 abbrev pub Says : List Follow → Kind → Option State → Type 0
 Says fs kind r = (t : rules.Token) → t.kind ≡ kind_of kind → next fs t ≡ step_of r
 
--- Whether a token of that kind and those bytes is `fn` or `pr`.
-abbrev pub Keys : List ℕ → Token → Bool → Type 0
-Keys text t r = (u : rules.Token) → u.kind ≡ kind_of t.kind → u.bytes ≡ take (t.to - t.from) (drop t.from text) → is_key u ≡ r
+-- The key that a token is, if it is one.
+abbrev pub IsKey : rules.Token → Option Key → Type 0
+IsKey u (Some Function) = (is_key u ≡ true) × (same_bytes u.bytes fn_text ≡ true)
+IsKey u (Some Predicate) = (is_key u ≡ true) × (same_bytes u.bytes fn_text ≡ false)
+IsKey u None = is_key u ≡ false
+
+-- The same of a token of that kind and those bytes.
+abbrev pub Keys : List ℕ → Token → Option Key → Type 0
+Keys text t r = (u : rules.Token) → u.kind ≡ kind_of t.kind → u.bytes ≡ take (t.to - t.from) (drop t.from text) → IsKey u r

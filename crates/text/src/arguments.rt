@@ -5,6 +5,7 @@ ghost use Rattle.text_rules.specs.TextWords.{given_arguments};
 ghost use Rattle.text.specs.Counting.{Counts};
 
 use crate::tokens::{Kind, next_token};
+use crate::walk::Tokens;
 
 // Brackets open inside the name's own, and arguments begun.
 #[derive(Clone, Copy, Debug, PartialEq, Eq)]
@@ -47,18 +48,12 @@ pub fn arguments(text: &[u8], at: usize) -> usize
     let Kind::Opening = first.kind else {
         return 0;
     };
-    let mut place = first.to;
     let mut count = Count { depth: 0, begun: 1 };
-    // A token's end is known once it is read, so this is no `for`.
-    loop {
-        let t = next_token(text, place);
-        if let Kind::Ending = t.kind {
-            return count.begun;
-        }
+    for t in Tokens::new(text, first.to) {
         let Some(next) = counted(count, t.kind) else {
             return count.begun;
         };
         count = next;
-        place = t.to;
     }
+    count.begun
 }

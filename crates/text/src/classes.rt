@@ -6,7 +6,7 @@ ghost use Rattle.text.specs.Kinds.{rule_class};
 use crate::tokens::Kind;
 use Class::{Colon, Digit, Letter, Minus, Space, Underscore, Unknown, Zero};
 
-// A mark is a token by itself.
+// A mark is a token by itself; `Unknown` is the class that the rules give to other bytes.
 #[derive(Clone, Copy, Debug, PartialEq, Eq)]
 pub enum Class {
     Unknown,
@@ -32,6 +32,7 @@ const COMMA: Class = Class::Mark(Kind::Comma);
 
 const TILDE: Class = Class::Mark(Kind::Tilde);
 
+// A table and no `match`: document 02 (U1) has bytes classed by a constant table of 128 entries.
 static CLASSES: [Class; 128] = [
     Unknown, Unknown, Unknown, Unknown, Unknown, Unknown, Unknown, Unknown, Unknown, Unknown,
     Space, Unknown, Unknown, Unknown, Unknown, Unknown, Unknown, Unknown, Unknown, Unknown,

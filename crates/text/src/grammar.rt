@@ -6,7 +6,8 @@ ghost use Rattle.text_rules.specs.Text.{place_of};
 ghost use Rattle.text.specs.Kinds.{kind_of};
 ghost use Rattle.text.specs.Steps.{part_of, state_of, depth_of, step_of, Says, Keys, option_of};
 
-use crate::tokens::{Kind, Token, next_token};
+use crate::tokens::{Kind, Token};
+use crate::walk::Tokens;
 
 // A clause's head and its body.
 #[derive(Clone, Copy, Debug, PartialEq, Eq)]
@@ -57,7 +58,7 @@ fn after_name(part: Part, depth: usize, kind: Kind) -> Option<State>
     }
 }
 
-// The step from a state over a token of that kind; `key` says whether it is `fn` or `pr`.
+// The step from a state over a token of that kind; `key` is the rules' `is_key`, whether it is `fn` or `pr`: which of them makes no difference to a step.
 #[tactic(auto, unfolding(text_rules::specs::TextGrammar::follows, text_rules::specs::TextGrammar::next))]
 pub fn follow(s: State, kind: Kind, key: bool) -> Option<State>
     requires { kind ≡ Kind.Opening → depth_of (state_of s) < usize.MAX }
@@ -82,16 +83,29 @@ pub fn follow(s: State, kind: Kind, key: bool) -> Option<State>
     }
 }
 
-// Whether the token is `fn` or `pr`.
-pub fn is_key(text: &[u8], t: Token) -> bool
+// What a declaration begins with: `fn` or `pr`.
+#[derive(Clone, Copy, Debug, PartialEq, Eq)]
+pub enum Key {
+    Function,
+    Predicate,
+}
+
+// The key that the token is, if it is one.
+pub fn key_of(text: &[u8], t: Token) -> Option<Key>
     requires { (t.from ≤ t.to) × (t.to ≤ length text.now) }
     ensures { Keys text.now t result }
 {
+    let Kind::Name = t.kind else {
+        return None;
+    };
     let bytes = &text[t.from..t.to];
-    match t.kind {
-        Kind::Name => bytes == b"fn".as_slice() || bytes == b"pr".as_slice(),
-        _ => false,
+    if bytes == b"fn".as_slice() {
+        return Some(Key::Function);
     }
+    if bytes == b"pr".as_slice() {
+        return Some(Key::Predicate);
+    }
+    None
 }
 
 // The first token that may not stand where it does: its place, or the text's length where this ends too early.
@@ -99,18 +113,15 @@ pub fn unreadable(text: &[u8]) -> Option<usize>
     ensures { place_of text.now (unread item (tokens 0 text.now)) ≡ option_of result }
 {
     let mut s = State::Item;
-    let mut at = 0;
-    // A token's end is known once it is read, so this is no `for`.
-    loop {
-        let t = next_token(text, at);
-        let key = is_key(text, t);
+    for t in Tokens::new(text, 0) {
+        let key = key_of(text, t).is_some();
         let Some(next) = follow(s, t.kind, key) else {
             return Some(t.from);
         };
-        if let Kind::Ending = t.kind {
-            return None;
-        }
         s = next;
-        at = t.to;
+    }
+    match follow(s, Kind::Ending, false) {
+        Some(_) => None,
+        None => Some(text.len()),
     }
 }

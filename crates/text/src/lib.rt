@@ -5,4 +5,6 @@ pub mod arguments;
 mod classes;
 pub mod grammar;
 pub mod names;
+pub mod readable;
 pub mod tokens;
+pub mod walk;

@@ -1,6 +1,7 @@
 // A table of a text's names, chained by a hash.
-ghost use Rattle.std.specs.Prelude.{◌≡◌, ◌+◌, ◌≤◌, ◌<◌, [], length};
+ghost use Rattle.std.specs.Prelude.{◌≡◌, ◌+◌, ◌≤◌, ◌<◌, [], IfSome, length, set};
 ghost use Rattle.text.specs.Hash.{hash_of, last_with, found_at, is_name};
+ghost use Rattle.text.specs.Names.{IsSlot};
 
 use std::marker::Model;
 
@@ -8,38 +9,46 @@ pub const ROOM: usize = 4096;
 
 const BUCKETS: usize = 1021;
 
-// A name is the bytes of the text from `from` up to `to`; a value was entered with it.
+// A name is the bytes of the text from `from` up to `to`; a value was entered with it. No ghost fact: `to` is bounded by a text that an entry does not have.
 #[derive(Clone, Copy, Debug, PartialEq, Eq)]
-pub struct Entry {
+pub struct Entry<V> {
     pub from: usize,
     pub to: usize,
-    pub value: usize,
+    pub value: V,
 }
 
-// A name, and the number of the name before it in its bucket.
+// An entry, and the number of the name before it in its bucket. Not an `Entry` in it: a slot with a u16 would take 32 bytes and not 24, and all 4,096 are filled for each text.
 #[derive(Clone, Copy, Debug, PartialEq, Eq)]
-pub struct Slot {
-    entry: Entry,
+pub struct Slot<V> {
+    from: usize,
+    to: usize,
+    value: V,
     before: Option<u16>,
 }
 
-// The first `count` slots are taken; `heads` has the last name of each bucket. Fixed arrays, since nothing here allocates.
+// Apart from the reference: in one struct with it, an array of `N` values of a type parameter is not covered.
 #[derive(Drop)]
-pub struct Names<'a> {
+struct Slots<V, const N: usize> {
+    row: [Slot<V>; N],
+}
+
+// The first `count` slots are taken; `heads` has the last name of each bucket. As an `ArrayVec` of slots the two would be one field: `enter` would spare one line, and `Chained` say as much.
+#[derive(Drop)]
+pub struct Names<'a, V, const N: usize> {
     text: &'a [u8],
-    slots: [Slot; ROOM],
+    slots: Slots<V, N>,
     heads: [Option<u16>; BUCKETS],
     count: usize,
 }
 
-impl<'a> Model for Names<'a> {
+impl<'a, V, const N: usize> Model for Names<'a, V, N> {
     ghost use Rattle.text.specs.Names.{Table, the_table, Chained};
 
-    ghost Value = { Table };
+    ghost Value = { Table V };
 
-    ghost view = { λ n. the_table n.text.now n.slots n.count };
+    ghost view = { λ n. the_table n.text.now n.slots.row n.count };
 
-    ghost invariant = { λ n. Chained n.text.now n.slots n.heads n.count };
+    ghost invariant = { λ n. Chained N n.text.now n.slots.row n.heads n.count };
 }
 
 fn hash(bytes: &[u8]) -> usize
@@ -53,22 +62,39 @@ fn hash(bytes: &[u8]) -> usize
     h
 }
 
-impl<'a> Names<'a> {
-    ghost use Rattle.text.specs.Names.{empty_table, entry_at, name_at, entered};
+// By reference: with a copy of each slot `find` took 883 us of the largest text, and 683 so.
+fn slot_at<V, const N: usize>(slots: &[Slot<V>; N], j: usize) -> &Slot<V>
+    requires { j < N }
+    ensures { IsSlot slots.now j result.now }
+{
+    &slots[j]
+}
 
-    // No names yet, with room for 4,096.
-    pub fn new(text: &'a [u8]) -> Names<'a>
+fn put_slot<V: Copy + Drop, const N: usize>(slots: &mut [Slot<V>; N], j: usize, slot: Slot<V>)
+    requires { j < N }
+    ensures { slots.new ≡ set slots.old j slot }
+{
+    slots[j] = slot;
+}
+
+impl<'a, V: Copy + Default + Drop, const N: usize> Names<'a, V, N> {
+    ghost use Rattle.text.specs.Names.{empty_table, IsEntry, name_at, entered};
+
+    // No names yet, with room for `N`, whose numbers are each a `u16`.
+    pub fn new(text: &'a [u8]) -> Names<'a, V, N>
+        requires { N ≤ 65535 }
         ensures { result ≡ empty_table text.now }
     {
-        let entry = Entry {
+        let slot = Slot {
             from: 0,
             to: 0,
-            value: 0,
+            value: V::default(),
+            before: None,
         };
-        let before = None;
+        let slots = Slots { row: [slot; N] };
         Names {
             text,
-            slots: [Slot { entry, before }; ROOM],
+            slots,
             heads: [None; BUCKETS],
             count: 0,
         }
@@ -82,32 +108,37 @@ impl<'a> Names<'a> {
 
     pub fn len(&self) -> usize
         ensures equal { result ≡ length self.now.entries }
-        ensures few { result ≤ 4096 }
+        ensures few { result ≤ N }
     {
         self.count
     }
 
-    pub fn get(&self, j: usize) -> Entry
+    pub fn get(&self, j: usize) -> Entry<V>
         requires { j < length self.now.entries }
-        ensures equal { result ≡ entry_at self.now j }
+        ensures equal { IsEntry self.now j result }
         ensures forward { result.from ≤ result.to }
         ensures inside { result.to ≤ length self.now.text }
     {
-        let slots = &self.slots;
-        slots[j].entry
+        let slots = &self.slots.row[..];
+        let slot = slots[j];
+        Entry {
+            from: slot.from,
+            to: slot.to,
+            value: slot.value,
+        }
     }
 
     // The number of the last name of those bytes.
     pub fn find(&self, bytes: &[u8]) -> Option<usize>
-        ensures { result ≡ found_at (last_with (is_name bytes.now) (name_at self.now) (length self.now.entries)) }
+        ensures last { result ≡ found_at (last_with (is_name bytes.now) (name_at self.now) (length self.now.entries)) }
+        ensures inside { IfSome result (λ j. (j < length self.now.entries) × (j < N)) }
     {
         let mut next = self.heads[hash(bytes)];
-        // The next name is the one that this one leads to, so this is no `for`.
+        // No `for`: an iterator over these links would be a struct with a ghost fact, for one loop of nine lines.
         while let Some(k) = next {
             let j = usize::from(k);
-            let slot = self.slots[j];
-            let entry = slot.entry;
-            if &self.text[entry.from..entry.to] == bytes {
+            let slot = slot_at(&self.slots.row, j);
+            if &self.text[slot.from..slot.to] == bytes {
                 return Some(j);
             }
             next = slot.before;
@@ -116,18 +147,29 @@ impl<'a> Names<'a> {
     }
 
     // Enters a name after the others.
-    pub fn enter(&mut self, entry: Entry)
-        requires room { length self.old.entries < 4096 }
+    pub fn enter(&mut self, entry: Entry<V>)
+        requires room { length self.old.entries < N }
         requires forward { entry.from ≤ entry.to }
         requires inside { entry.to ≤ length self.old.text }
         ensures { self.new ≡ entered self.old entry }
     {
-        let h = hash(&self.text[entry.from..entry.to]);
-        self.slots[self.count] = Slot {
-            entry,
-            before: self.heads[h],
-        };
-        self.heads[h] = Some(self.count as u16);
-        self.count += 1;
+        let Entry { from, to, value } = entry;
+        let h = hash(&self.text[from..to]);
+        let before = self.heads[h];
+        let i = self.count;
+        put_slot(
+            &mut self.slots.row,
+            i,
+            Slot {
+                from,
+                to,
+                value,
+                before,
+            },
+        );
+        let heads = &mut self.heads;
+        // It is below 65,535: a `try_from` would want an answer for what cannot be.
+        heads[h] = Some(i as u16);
+        self.count = i + 1;
     }
 }

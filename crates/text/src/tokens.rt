@@ -6,7 +6,7 @@ ghost use Rattle.text.specs.Scan.{Skipped, DigitsAt, single, Scanned, Next};
 
 use crate::classes::{Class, class_of, is_digit, is_space, is_word};
 
-// A number and a variable have their value: an arity is at most 15, a variable at most 1,023.
+// A number and a variable have their value: an arity is at most 15, a variable at most 1,023. `Ending` and `Invalid` are kinds of the rules, so they are kinds here.
 #[derive(Clone, Copy, Debug, PartialEq, Eq)]
 pub enum Kind {
     Invalid,
@@ -23,7 +23,7 @@ pub enum Kind {
     Tilde,
 }
 
-// The token's bytes are those from `from` up to `to`.
+// The token's bytes are those from `from` up to `to`; no slice of them, since a name's place is told and most tokens' bytes are not read again.
 #[derive(Clone, Copy, Debug, PartialEq, Eq)]
 pub struct Token {
     pub kind: Kind,
@@ -31,7 +31,7 @@ pub struct Token {
     pub to: usize,
 }
 
-// Where a number ends, and its value where it is below 65,535.
+// Where a number ends, and its value, at most 65,535: each bound is below that, so no `Option` is opened before the bound is tested.
 #[derive(Clone, Copy, Debug, PartialEq, Eq)]
 pub struct Numeral {
     pub to: usize,
@@ -97,7 +97,7 @@ fn digits_at(text: &[u8], from: usize) -> Numeral
     }
 }
 
-// The number at `from`, without leading zeros; none where no digit stands there.
+// The number at `from`, without leading zeros; it ends at `from` where no digit stands there. As an `Option`, number_token would meet a `None` that cannot come.
 fn number_at(text: &[u8], from: usize) -> Numeral
     requires { from ≤ length text.now }
     ensures { DigitsAt text.now from (numeral (drop from text.now)) result }
@@ -134,6 +134,7 @@ fn name_token(text: &[u8], from: usize) -> Token
     }
 }
 
+// As one function with variable_token this would take the bytes in front, the bound and the kind as a closure, whose contract is longer than both.
 fn number_token(text: &[u8], from: usize) -> Token
     requires { (from < length text.now) × ((class_of (get_or text.now from 0) ≡ zero_digit) ⊎ (class_of (get_or text.now from 0) ≡ digit)) }
     ensures { Scanned text.now from result }

@@ -5,30 +5,23 @@
 // Numbers are three bytes, low byte first.
 #![tactic(auto)]
 
-use case_file::{input, number, title};
+use case_file::CaseFile;
 use std::io::Read;
 use std::{fs, io};
 
 // Without the file there are no cases.
 fn main(rt: HostRuntime) -> io::Result<()> {
     match fs::open(&rt, "cases") {
-        Ok(mut file) => cases(&rt, &mut file),
+        Ok(file) => CaseFile::new(file, 3).each(|cases| case(&rt, cases)),
         Err(_) => Ok(()),
     }
 }
 
-fn cases<F: Read>(rt: &impl Print, file: &mut F) -> io::Result<()> {
-    for _ in 0..number::<F, 3>(file) {
-        case(rt, file)?;
-    }
-    Ok(())
-}
-
-fn case<F: Read>(rt: &impl Print, file: &mut F) -> io::Result<()> {
+fn case<F: Read>(rt: &impl Print, cases: &mut CaseFile<F>) -> io::Result<()> {
     let mut room = [32u8; 262146];
-    title::<F, 3>(rt, file)?;
-    let asked = number::<F, 3>(file);
-    let bytes = input::<F, 3>(file, &mut room);
+    cases.title(rt)?;
+    let asked = cases.number();
+    let bytes = cases.input(&mut room);
     match asked {
         0 => read(rt, bytes),
         1 => write(rt, Some(bytes)),

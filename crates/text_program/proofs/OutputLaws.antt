@@ -9,7 +9,7 @@ use Rattle.text_rules.specs.TextProgram.{place_line}
 use Rattle.listing.proofs.DigitLaws.{decimal-append, decimal-length}
 
 -- The line of refusal 10.
-ten : (rest : List ℕ) → decimal 10 rest ≡ 49 ∷ 48 ∷ rest
+pub ten : (rest : List ℕ) → decimal 10 rest ≡ 49 ∷ 48 ∷ rest
 unfolding decimal digits
 ten rest = refl
 

@@ -1,5 +1,5 @@
 -- What the writing program prints, answer by answer.
-use Rattle.std.proofs.Common.{◌≡◌, ℕ, List, ◌++◌, length, drop, Result, Ok, Err, refl, ap, sym, ◌∙◌, arith}
+use Rattle.std.proofs.Common.{◌≡◌, ℕ, List, ◌++◌, length, drop, Result, Ok, Err, refl, ap, ◌∙◌, arith}
 use Rattle.std.proofs.Math.Option.{Option}
 use Rattle.rules.specs.Refusals.{Refusal, Checked, refused, accepted, and_then}
 use Rattle.rules.specs.Program.{deck_file}

@@ -6,24 +6,24 @@ ghost use Rattle.listing.specs.Printed.{file_of, Printed};
 ghost use Rattle.program_parts.specs.Answers.{Prints};
 
 use deck::Refusal;
-use listing::put_refusal;
-use program_parts::{deck_words, or_refusal};
+use program_parts::{deck_words, or_refusal, put_line};
 use reading::ReadError;
 
 mod output;
 
 // What is printed of a text, at the start of `out`, whose other bytes stay; the result is how many bytes. A deck has at most 16,384 words.
+// A number beside the room (c): tried as a `&'a [u8]` of it with `follows_so`; the check wants `printed_spec` by hand, and a caller's `c.out-1.given` stays open.
 pub fn read_printed(text: &[u8], out: &mut [u8; 32768]) -> usize
     ensures { Printed (read_program text.now) out.old result out.new }
 {
     if 262144 < text.len() {
-        return put_refusal(out, u32::from(Refusal::Room));
+        return put_line(out, Refusal::Room);
     }
     let mut words = [0u16; 16384];
     match reading::read_text(text, &mut words) {
         Ok(n) => output::put_deck(out, &words[..n]),
         Err(ReadError::Unreadable(place)) => output::put_place(out, place),
-        Err(ReadError::Refused(why)) => put_refusal(out, u32::from(why)),
+        Err(ReadError::Refused(why)) => put_line(out, why),
     }
 }
 

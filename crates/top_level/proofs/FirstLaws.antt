@@ -5,7 +5,7 @@ use mathlib.Core.List.{List, [], ◌∷◌, ◌++◌, map, map-append, reverse, 
 use native.Mathlib.Omega.{arith}
 use native.Mathlib.Numerals.{add-one}
 use lib.ListN.{length, take, set, length-append, length-map}
-use lib.Seq.{sets, length-sets, take-length}
+use lib.Seq.{sets, length-sets}
 use Rattle.rules.specs.Terms.{nil, sizes}
 use Rattle.rules.specs.Syntax.{Symbol, Literal, Goal, vars_literals, top_goal}
 use Rattle.rules.specs.Cells.{write_terms, write_literals}
@@ -84,18 +84,17 @@ module _ {ar words : List ℕ} {S : List Symbol} {q : List Literal} (h : Queries
 
     -- It is held, where it is written in order and then reversed.
     pub first-held : (s t : List ℕ) → 1024 ≤ length s
-        → t ≡ rev 0 held (sets (sets (set (set s 0 held) 1 n) 2 (numbers n)) (2 + n) (take (length words) words)) → Holding S t held (first_goal q ∷ [])
+        → t ≡ rev 0 held (sets (sets (set (set s 0 held) 1 n) 2 (numbers n)) (2 + n) words) → Holding S t held (first_goal q ∷ [])
     first-held s t l r =
         let ws = held ∷ (n ∷ (numbers n ++ words)) in
-        let all : sets (sets (set (set s 0 held) 1 n) 2 (numbers n)) (2 + n) (take (length words) words) ≡ sets s 0 ws =
+        let all : sets (sets (set (set s 0 held) 1 n) 2 (numbers n)) (2 + n) words ≡ sets s 0 ws =
         let m : 2 + n ≡ 0 + length (held ∷ (n ∷ numbers n)) = omega (arith, numbers-length n) in
-        ap₂ (λ (x : List ℕ) (i : ℕ). sets x i (take (length words) words)) (sets-append (held ∷ (n ∷ [])) (numbers n) s 0) m
-        ∙ ap (sets (sets s 0 (held ∷ (n ∷ numbers n))) (0 + length (held ∷ (n ∷ numbers n)))) (take-length words)
+        ap₂ (λ (x : List ℕ) (i : ℕ). sets x i words) (sets-append (held ∷ (n ∷ [])) (numbers n) s 0) m
         ∙ sets-append (held ∷ (n ∷ numbers n)) words s 0 in
         let m : 0 + length ws ≡ held = omega (arith, length-append (numbers n) words, numbers-length n) in
         let front = (rev-fronted (sets s 0 ws) [] ws 0 held refl m (take-sets ws s held 0 m (omega (arith, first_short)))).0 in
         record {
-          inside = omega (arith, first_short, ap length r, ap length all, length-rev (sets (sets (set (set s 0 held) 1 n) 2 (numbers n)) (2 + n) (take (length words) words)) 0 held (omega arith), length-sets s 0 ws);
+          inside = omega (arith, first_short, ap length r, ap length all, length-rev (sets (sets (set (set s 0 held) 1 n) 2 (numbers n)) (2 + n) words) 0 held (omega arith), length-sets s 0 ws);
           well_formed = (first_goal-wf S q h.well_formed, tt);
           words = ap (take held) (r ∙ ap (rev 0 held) all) ∙ front ∙ ap reverse (sym first-words);
         }

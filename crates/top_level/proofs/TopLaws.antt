@@ -5,7 +5,7 @@ use mathlib.Core.List.{List, [], ◌∷◌, ◌++◌, reverse, append-nil}
 use native.Mathlib.Omega.{arith}
 use borrow.Author.Tests.{le-leb, lt-leb}
 use lib.ListN.{length, get_or, take, drop, length-append, length-drop}
-use lib.Seq.{sets, sets-eq, take_at, drop_at, drop-drop}
+use lib.Seq.{sets, length-sets, sets-eq, take_at, drop_at, drop-drop}
 use borrow.Rule.Slice.PartMut.{mid_of, put_mid, same_len_mid}
 use Rattle.rules.specs.Syntax.{Symbol, Clause, Deck, Goal}
 use Rattle.rules.specs.Refusals.{accepted}
@@ -59,7 +59,7 @@ module _ (clauses : List Clause) (answer_room store_size below : ℕ) (g : Goal)
       (next ∙ rw (lt-leb (words_of l.answers + goal_words g) answer_room f, answer_step))
 
 pub goes_first : {d : Deck} {answers store : List ℕ} {gs : List Goal} {ms : List Marked} {budget parked held : ℕ} → Stored d.symbols store parked held (opening gs ms)
-    → Goes (started d answers store gs ms budget) answers store (record { parked = parked; held = held; account = record { left = budget; steps = 0 }; filled = 0; listed = 0 })
+    → Goes (started d answers store gs ms budget) answers store (record { parts = record { parked = parked; held = held }; account = record { left = budget; steps = 0 }; filled = 0; listed = 0 })
 unfolding write_goals
 goes_first {d} {answers} {store} {gs} {ms} {budget} h =
     let s = started d answers store gs ms budget in
@@ -100,7 +100,7 @@ answer-listed {l} {answers₀} {answers'} {used} {count} g gs answers'' h f e =
 
 module _ {s : Started} {answers store : List ℕ} {p : Progress} (r : Goes s answers store p) where
   -- NOTHING IS HELD
-  pub stops-empty : p.held ≤ 0 → Stops s answers store (record { stop = Finished; at = p })
+  pub stops-empty : p.parts.held ≤ 0 → Stops s answers store (record { stop = Finished; at = p })
   stops-empty z = record {
     level = r.level;
     same =
@@ -114,15 +114,15 @@ module _ {s : Started} {answers store : List ℕ} {p : Progress} (r : Goes s ans
   }
 
   -- SOMETHING IS HELD
-  module _ (some : 0 < p.held) where
+  module _ (some : 0 < p.parts.held) where
     first : FirstOf r.level.pending
     first = first_of r.level.pending r.stored.pending some
 
-    first-held : Holding s.deck.symbols (drop p.parked store) p.held (first.first ∷ first.rest)
-    first-held = subst (Holding s.deck.symbols (drop p.parked store) p.held) first.same r.stored.pending
+    first-held : Holding s.deck.symbols (drop p.parts.parked store) p.parts.held (first.first ∷ first.rest)
+    first-held = subst (Holding s.deck.symbols (drop p.parts.parked store) p.parts.held) first.same r.stored.pending
 
-    pub some_first : (deck_words : List ℕ) → open_deck deck_words ≡ accepted s.deck → SomeFirst deck_words (mid_of p.parked (length store - p.parked) store) p.held
-    some_first deck_words o = rw (part-all store p.parked r.stored.inside) (record { deck = s.deck; first = first.first; goals = first.rest; opens = o; holding = first-held })
+    pub some_first : (deck_words : List ℕ) → open_deck deck_words ≡ accepted s.deck → SomeFirst deck_words (mid_of p.parts.parked (length store - p.parts.parked) store) p.parts.held
+    some_first deck_words o = rw (part-all store p.parts.parked r.stored.inside) (record { deck = s.deck; first = first.first; goals = first.rest; opens = o; holding = first-held })
 
     pub stops-spent : p.account.left ≡ 0 → Stops s answers store (record { stop = Budget; at = p })
     stops-spent z =
@@ -140,27 +140,27 @@ module _ {s : Started} {answers store : List ℕ} {p : Progress} (r : Goes s ans
 
     -- A STEP, which leaves `part` past the parked goals.
     module _ (pays : 0 < p.account.left) (deck_words : List ℕ) (opens : open_deck deck_words ≡ accepted s.deck) (part : List ℕ)
-        (long : length part ≡ length (mid_of p.parked (length store - p.parked) store)) where
+        (long : length part ≡ length (mid_of p.parts.parked (length store - p.parts.parked) store)) where
       -- The store with the part in its place.
       abbrev stepped-store : List ℕ
-      stepped-store = put_mid p.parked (length store - p.parked) store part
+      stepped-store = put_mid p.parts.parked (length store - p.parts.parked) store part
 
-      back : stepped-store ≡ take p.parked store ++ part
-      back = put_all store part p.parked r.stored.inside
+      back : stepped-store ≡ take p.parts.parked store ++ part
+      back = put_all store part p.parts.parked r.stored.inside
 
-      part-long : length part ≡ length (drop p.parked store)
-      part-long = long ∙ ap length (part-all store p.parked r.stored.inside)
+      part-long : length part ≡ length (drop p.parts.parked store)
+      part-long = long ∙ ap length (part-all store p.parts.parked r.stored.inside)
 
       all-long : length stepped-store ≡ length s.store
-      all-long = same_len_mid p.parked (length store - p.parked) store part long ∙ r.size
+      all-long = same_len_mid p.parts.parked (length store - p.parts.parked) store part long ∙ r.size
 
-      stands : Stands zeroth r.level (first.first ∷ first.rest) (length (drop p.parked store)) (length s.store)
+      stands : Stands zeroth r.level (first.first ∷ first.rest) (length (drop p.parts.parked store)) (length s.store)
       stands =
-          subst (Stands zeroth r.level (first.first ∷ first.rest) (length (drop p.parked store))) r.size
+          subst (Stands zeroth r.level (first.first ∷ first.rest) (length (drop p.parts.parked store))) r.size
           (stored-stands r.stored (first.first ∷ first.rest) first.same)
 
       -- The first goals are as they were.
-      unchanged : take p.held part ≡ take p.held (drop p.parked store) → Goes s answers stepped-store p
+      unchanged : take p.parts.held part ≡ take p.parts.held (drop p.parts.parked store) → Goes s answers stepped-store p
       unchanged e = record {
         level = r.level;
         same = r.same;
@@ -173,7 +173,7 @@ module _ {s : Started} {answers store : List ℕ} {p : Progress} (r : Goes s ans
         few = r.few;
       }
 
-      by_turn : (t : Result Turn Halt) → Turned s.deck 32 (drop p.parked store) p.held p.account first.first first.rest part t
+      by_turn : (t : Result Turn Halt) → Turned s.deck 32 (drop p.parts.parked store) p.parts.held p.account first.first first.rest part t
           → Stepped s answers stepped-store p t
       unfolding with_pending unchanged
       by_turn (Ok Empty) u = record { goes = unchanged u.1; goal = first.first; others = first.rest; first = first.same; empty = u.0; pays = pays }
@@ -213,11 +213,11 @@ module _ {s : Started} {answers store : List ℕ} {p : Progress} (r : Goes s ans
       -- What a step came to, whatever the deck and the first goal.
       pub stepped : (t : Result Turn Halt)
           → ((d : Deck) (g : Goal) (gs : List Goal) → open_deck deck_words ≡ accepted d
-          → Holding d.symbols (mid_of p.parked (length store - p.parked) store) p.held (g ∷ gs)
-          → Turned d 32 (mid_of p.parked (length store - p.parked) store) p.held p.account g gs part t)
+          → Holding d.symbols (mid_of p.parts.parked (length store - p.parts.parked) store) p.parts.held (g ∷ gs)
+          → Turned d 32 (mid_of p.parts.parked (length store - p.parts.parked) store) p.parts.held p.account g gs part t)
           → Stepped s answers stepped-store p t
       stepped t took =
-          let e = part-all store p.parked r.stored.inside in
+          let e = part-all store p.parts.parked r.stored.inside in
           by_turn t ((rw e at took) s.deck first.first first.rest opens first-held)
 
 -- Where a goal is pending, words are held.
@@ -226,13 +226,13 @@ some-held {g = g} {gs} h e = omega (arith, first_fits h g gs e, cells-length g)
 
 -- The first pending goal has no literals: its words go to the answer list, or there is no room for them.
 module _ {s : Started} {answers store : List ℕ} {p : Progress} (b : Bare s answers store p) where
-  pub bare-held : 0 < p.held
+  pub bare-held : 0 < p.parts.held
   bare-held = some-held b.goes.stored b.first
 
-  bare-size : get_or store (p.parked + p.held - 1) 0 ≡ goal_words b.goal
+  bare-size : get_or store (p.parts.parked + p.parts.held - 1) 0 ≡ goal_words b.goal
   bare-size = first_word b.goes.stored b.goal b.others b.first
 
-  pub stops-unlisted : length answers - p.filled < get_or store (p.parked + p.held - 1) 0 → Stops s answers store (record { stop = Answers; at = p })
+  pub stops-unlisted : length answers - p.filled < get_or store (p.parts.parked + p.parts.held - 1) 0 → Stops s answers store (record { stop = Answers; at = p })
   stops-unlisted f =
       let r = b.goes in
       record {
@@ -248,13 +248,13 @@ module _ {s : Started} {answers store : List ℕ} {p : Progress} (b : Bare s ans
         paid = omega (arith, r.paid);
       }
 
-  pub goes-listed : (answers' : List ℕ) → p.filled + get_or store (p.parked + p.held - 1) 0 ≤ length answers
-      → answers' ≡ sets answers p.filled (take (get_or store (p.parked + p.held - 1) 0) (reverse (take (p.parked + p.held) store)))
-      → length answers' ≡ length answers
-      → let n = get_or store (p.parked + p.held - 1) 0 in
-      Goes s answers' store (record { parked = p.parked; held = p.held - n; account = paid_one p.account; filled = p.filled + n; listed = p.listed + 1 })
-  goes-listed answers' f q same-room =
+  pub goes-listed : (answers' : List ℕ) → p.filled + get_or store (p.parts.parked + p.parts.held - 1) 0 ≤ length answers
+      → answers' ≡ sets answers p.filled (take (get_or store (p.parts.parked + p.parts.held - 1) 0) (reverse (take (p.parts.parked + p.parts.held) store)))
+      → let n = get_or store (p.parts.parked + p.parts.held - 1) 0 in
+      Goes s answers' store (record { parts = record { parked = p.parts.parked; held = p.parts.held - n }; account = paid_one p.account; filled = p.filled + n; listed = p.listed + 1 })
+  goes-listed answers' f q =
       let r = b.goes in
+      let same-room : length answers' ≡ length answers = ap length q ∙ length-sets answers p.filled (take (get_or store (p.parts.parked + p.parts.held - 1) 0) (reverse (take (p.parts.parked + p.parts.held) store))) in
       record {
         level = with_answer b.goal b.others r.level;
         same =
@@ -263,29 +263,29 @@ module _ {s : Started} {answers store : List ℕ} {p : Progress} (b : Bare s ans
             (omega (arith, bare-size, r.lists.words, r.room)) (omega (arith, stored-inside r.stored, parked-words r.stored, first_fits r.stored b.goal b.others b.first, r.size));
         stored = rw bare-size (rest-stored r.stored b.goal b.others b.first);
         lists = rw bare-size (answer-listed b.goal b.others answers' r.lists (omega (arith, bare-size, r.room))
-            (q ∙ ap (sets answers p.filled) (ap (λ (k : ℕ). take k (reverse (take (p.parked + p.held) store))) bare-size ∙ first-copied r.stored b.goal b.others b.first)));
+            (q ∙ ap (sets answers p.filled) (ap (λ (k : ℕ). take k (reverse (take (p.parts.parked + p.parts.held) store))) bare-size ∙ first-copied r.stored b.goal b.others b.first)));
         size = r.size;
         room = same-room ∙ r.room;
-        inside = omega arith;
+        inside = omega (arith, same-room);
         paid = omega (arith, r.paid, b.pays);
         few = omega (arith, r.few, bare-size, cells-length b.goal);
       }
 
 -- The first pending goal is parked.
 module _ {s : Started} {answers store : List ℕ} {p : Progress} {m : declared.Mark} {k : Account} (w : Waits s answers store p m k) where
-  pub waits-held : 0 < p.held
+  pub waits-held : 0 < p.parts.held
   waits-held = some-held w.goes.stored w.first
 
   -- What parking leaves, whatever the first goal.
   abbrev Parks : ℕ → List ℕ → Type 0
-  Parks n store' = (S : List Symbol) (l : Level) (g : Goal) (gs : List Goal) → l.pending ≡ g ∷ gs → Stored S store p.parked p.held l
-      → (n ≡ goal_words g) × (n ≤ p.held) × Stored S store' (p.parked + n) (p.held - n) (with_parked (mark_of m) g gs l)
+  Parks n store' = (S : List Symbol) (l : Level) (g : Goal) (gs : List Goal) → l.pending ≡ g ∷ gs → Stored S store p.parts.parked p.parts.held l
+      → (n ≡ goal_words g) × (n ≤ p.parts.held) × Stored S store' (p.parts.parked + n) (p.parts.held - n) (with_parked (mark_of m) g gs l)
 
-  pub parks-within : (n : ℕ) (store' : List ℕ) → Parks n store' → n ≤ p.held
+  pub parks-within : (n : ℕ) (store' : List ℕ) → Parks n store' → n ≤ p.parts.held
   parks-within n store' z = (z s.deck.symbols w.goes.level w.goal w.others w.first w.goes.stored).1
 
   pub goes-parked : (n : ℕ) (store' : List ℕ) → Parks n store' → length store' ≡ length store
-      → Goes s answers store' (record { parked = p.parked + n; held = p.held - n; account = k; filled = p.filled; listed = p.listed })
+      → Goes s answers store' (record { parts = record { parked = p.parts.parked + n; held = p.parts.held - n }; account = k; filled = p.filled; listed = p.listed })
   unfolding with_parked
   goes-parked n store' z e =
       let r = w.goes in
@@ -309,7 +309,7 @@ follows-within s k m answers store (Err e) h u = u
 -- The end, with the goals put in order; its steps, and what is left.
 pub topped : (s : Started) {answers store : List ℕ} (e : End) (store' : List ℕ) (c : Counts) (budget steps left : ℕ) → s.budget ≡ budget
     → steps ≡ e.at.account.steps → left ≡ e.at.account.left → Stops s answers store e
-    → ((l : Level) → Stored s.deck.symbols store e.at.parked e.at.held l → Ordered l store' c)
+    → ((l : Level) → Stored s.deck.symbols store e.at.parts.parked e.at.parts.held l → Ordered l store' c)
     → Topped s.deck s.answers s.store s.goals s.parked s.budget answers store'
     (record { stop = e.stop; steps = steps; cost = budget - left; answers = e.at.listed; pending = c.pending; parked = c.parked })
 topped s e store' c budget steps left b n k h o = record {

@@ -110,7 +110,7 @@ pub record Lists (l : Level) (answers₀ answers : List ℕ) (filled count : ℕ
 pub record Goes (s : Started) (answers store : List ℕ) (p : Progress) : Type 0 where
   pub level : Level
   pub same : evaluates s (begun s) (rules.opening s.budget) ≡ evaluates s level (account_of p.account)
-  pub stored : Stored s.deck.symbols store p.parked p.held level
+  pub stored : Stored s.deck.symbols store p.parts.parked p.parts.held level
   pub lists : Lists level s.answers answers p.filled p.listed
   pub size : length store ≡ length s.store
   pub room : length answers ≡ length s.answers
@@ -126,7 +126,7 @@ pub record SomeGoes (deck_words answers store : List ℕ) (p : Progress) : Type 
 pub record Stops (s : Started) (answers store : List ℕ) (e : End) : Type 0 where
   pub level : Level
   pub same : evaluates s (begun s) (rules.opening s.budget) ≡ ended (stopped (stop_of e.stop)) level (account_of e.at.account)
-  pub stored : Stored s.deck.symbols store e.at.parked e.at.held level
+  pub stored : Stored s.deck.symbols store e.at.parts.parked e.at.parts.held level
   pub lists : Lists level s.answers answers e.at.filled e.at.listed
   pub size : length store ≡ length s.store
   pub room : length answers ≡ length s.answers
@@ -162,11 +162,11 @@ pub record Waits (s : Started) (answers store : List ℕ) (p : Progress) (m : de
 
 -- With h words pending, and the account b.
 abbrev pub moved : Progress → ℕ → Account → Progress
-moved p h b = record { parked = p.parked; held = h; account = b; filled = p.filled; listed = p.listed }
+moved p h b = record { parts = record { parked = p.parts.parked; held = h }; account = b; filled = p.filled; listed = p.listed }
 
 -- The end, where a step halts.
 abbrev pub end_of : Progress → Halt → End
-end_of p halt = record { stop = halt.stop; at = moved p p.held halt.account }
+end_of p halt = record { stop = halt.stop; at = moved p p.parts.held halt.account }
 
 -- What a step came to at level 0.
 abbrev pub Stepped : Started → List ℕ → List ℕ → Progress → Result Turn Halt → Type 0
@@ -186,7 +186,7 @@ Follows s k answers store (Err e) = Stops s answers store e
 
 -- The same, and where it goes on there is a goal to take a step on, and something is left.
 abbrev pub Due : Started → ℕ → List ℕ → List ℕ → Progress → Result (Unit {0}) End → Type 0
-Due s k answers store p (Ok u) = (p.account.left < k) × (0 < p.held) × (0 < p.account.left) × Goes s answers store p
+Due s k answers store p (Ok u) = (p.account.left < k) × (0 < p.parts.held) × (0 < p.account.left) × Goes s answers store p
 Due s k answers store p (Err e) = Stops s answers store e
 
 -- What level 0's run leaves and reports, started with the goals gs pending and ms parked.

@@ -1,4 +1,5 @@
 // Level 0: its answers go to the answer list, its parked goals stay at the start of the store.
+// `as` is proved to lose nothing in this file; `try_from` would want an answer for what does not fit.
 #![tactic(auto)]
 
 ghost use Rattle.std.specs.Prelude.{◌≡◌, ℕ, ◌+◌, ◌-◌, ◌≤◌, ◌<◌, List, [], ◌∷◌, length, Ok};
@@ -17,27 +18,38 @@ use report::{Report, Stop};
 use resolvents::fresh::variables;
 use resolvents::workspace::Workspace;
 
+// The cell of the first variable; those of the others follow it. Written here too: this crate does not stand on `matching`.
+const VARIABLE: usize = 32768;
+
+// A goal's first word is its number of words plus its mark times this.
+const MARK: u16 = 4096;
+
 // The numbers of pending and parked goals.
 #[derive(Clone, Copy, Debug, PartialEq, Eq)]
 pub struct Counts {
-    pub pending: u32,
-    pub parked: u32,
+    pub pending: usize,
+    pub parked: usize,
 }
 
-// What level 0 starts on: how many words of the store the parked goals take, and how many the pending ones after them; the budget.
+// How many words of the store the parked goals take, and how many the pending ones after them.
 #[derive(Clone, Copy, Debug, PartialEq, Eq)]
-pub struct Start {
+pub struct Parts {
     pub parked: usize,
     pub held: usize,
+}
+
+// What level 0 starts on: the goals stored; the budget.
+#[derive(Clone, Copy, Debug, PartialEq, Eq)]
+pub struct Start {
+    pub parts: Parts,
     pub budget: u32,
 }
 
-// Level 0 between two steps: how many words of the store its parked goals take, and how many its pending ones after them; the account;
-// how many words its answers take, and how many they are.
+// Level 0 between two steps: its goals in the store; the account; how many words its answers take, and how many they are.
+// The store and the answer list stay beside it: a step is taken in &mut store[parked..], so a struct round them would be taken apart at each turn.
 #[derive(Clone, Copy, Debug, PartialEq, Eq)]
 pub struct Progress {
-    pub parked: usize,
-    pub held: usize,
+    pub parts: Parts,
     pub account: Account,
     pub filled: usize,
     pub listed: u64,
@@ -63,39 +75,44 @@ pub struct End {
     pub at: Progress,
 }
 
-// Parks the first pending goal: it goes behind the parked ones. The result is its number of words.
-fn park(store: &mut [u16], parked: usize, held: usize, mark: Mark) -> usize
-    requires stored { SomeStored store.old parked held }
-    requires pending { 0 < held }
-    ensures { (S : List Symbol) (l : Level) (g : Goal) (gs : List Goal) → l.pending ≡ g ∷ gs → Stored S store.old parked held l → (result ≡ goal_words g) × (result ≤ held) × Stored S store.new (parked + result) (held - result) (with_parked (mark_of mark) g gs l) }
+// Parks the first pending goal: it goes behind the parked ones. The result is its number of words, the last word held: a function for this one read
+// would be all contract.
+fn park(store: &mut [u16], parts: Parts, mark: Mark) -> usize
+    requires stored { SomeStored store.old parts.parked parts.held }
+    requires pending { 0 < parts.held }
+    ensures { (S : List Symbol) (l : Level) (g : Goal) (gs : List Goal) → l.pending ≡ g ∷ gs → Stored S store.old parts.parked parts.held l → (result ≡ goal_words g) × (result ≤ parts.held) × Stored S store.new (parts.parked + result) (parts.held - result) (with_parked (mark_of mark) g gs l) }
 {
+    let Parts { parked, held } = parts;
     let end = parked + held;
     let length = usize::from(store[end - 1]);
-    words::reverse_range(store, parked, end);
-    words::reverse_range(store, parked + length, end);
+    store[parked..end].reverse();
+    store[parked + length..end].reverse();
     store[parked] += u16::from(mark);
     length
 }
 
 // The first pending goal, which has no literals, goes to the answer list; or there is no room for it there.
 fn list(at: Progress, answers: &mut [u16], store: &[u16]) -> Result<Progress, End>
-    requires bare { SomeBare answers.old store.now at }
-    requires short_store { length store.now ≤ 65535 }
+    requires { SomeBare answers.old store.now at }
     ensures { (s : Started) → Bare s answers.old store.now at → Follows s at.account.left answers.new store.now result }
 {
-    let end = at.parked + at.held;
+    let Parts { parked, held } = at.parts;
+    let end = parked + held;
     let n = usize::from(store[end - 1]);
     if answers.len() - at.filled < n {
         let stop = Stop::Answers;
         return Err(End { stop, at });
     }
-    words::copy_mirrored(store, end, n, answers, at.filled);
+    let filled = at.filled + n;
+    words::mirror(&store[end - n..end], &mut answers[at.filled..filled]);
     Ok(Progress {
-        held: at.held - n,
+        parts: Parts {
+            parked,
+            held: held - n,
+        },
         account: at.account.pay_one(),
-        filled: at.filled + n,
+        filled,
         listed: at.listed + 1,
-        ..at
     })
 }
 
@@ -106,26 +123,31 @@ fn follow(
     answers: &mut [u16],
     store: &mut [u16],
 ) -> Result<Progress, End>
-    requires stepped { SomeStepped answers.old store.old at taken }
-    requires short_store { length store.old ≤ 65535 }
+    requires { SomeStepped answers.old store.old at taken }
     ensures { (s : Started) → Stepped s answers.old store.old at taken → Follows s at.account.left answers.new store.new result }
 {
     match taken.map_err(|halt| at.halted(halt))? {
         Turn::Empty => list(at, answers, store),
         Turn::Park(mark, account) => {
-            let n = park(store, at.parked, at.held, mark);
+            let n = park(store, at.parts, mark);
+            let parts = Parts {
+                parked: at.parts.parked + n,
+                held: at.parts.held - n,
+            };
             Ok(Progress {
-                parked: at.parked + n,
-                held: at.held - n,
+                parts,
                 account,
                 ..at
             })
         }
-        Turn::More(held, account) => Ok(Progress {
-            held,
-            account,
-            ..at
-        }),
+        Turn::More(held, account) => {
+            let parts = Parts { held, ..at.parts };
+            Ok(Progress {
+                parts,
+                account,
+                ..at
+            })
+        }
     }
 }
 
@@ -133,7 +155,7 @@ fn follow(
 fn due(at: &Progress) -> Result<(), End>
     ensures { (s : Started) (k : ℕ) (answers store : List ℕ) → Follows s k answers store (Ok at.now) → Due s k answers store at.now result }
 {
-    if at.held == 0 {
+    if at.parts.held == 0 {
         let stop = Stop::Finished;
         return Err(End { stop, at: *at });
     }
@@ -145,7 +167,7 @@ fn due(at: &Progress) -> Result<(), End>
     Ok(())
 }
 
-// A step on the first pending goal, if one is due.
+// A step on the first pending goal, if one is due. Clauses and workspace stay two, as at levels' `take_step`.
 fn turn(
     clauses: &Clauses<'_>,
     at: Progress,
@@ -153,14 +175,13 @@ fn turn(
     store: &mut [u16],
     work: &mut Workspace<'_>,
 ) -> Result<Progress, End>
-    requires goes { SomeGoes clauses.now.deck.now answers.old store.old at }
-    requires short_store { length store.old ≤ 65535 }
-    ensures { (s : Started) → open_deck clauses.now.deck.now ≡ accepted s.deck → Goes s answers.old store.old at → Follows s at.account.left answers.new store.new result }
+    requires { SomeGoes clauses.now.deck.words.now answers.old store.old at }
+    ensures { (s : Started) → open_deck clauses.now.deck.words.now ≡ accepted s.deck → Goes s answers.old store.old at → Follows s at.account.left answers.new store.new result }
 {
     due(&at)?;
     let account = at.account;
-    let part = &mut store[at.parked..];
-    let taken = take_step(clauses, 32, part, at.held, account, work);
+    let part = &mut store[at.parts.parked..];
+    let taken = take_step(clauses, 32, part, at.parts.held, account, work);
     follow(taken, at, answers, store)
 }
 
@@ -174,18 +195,19 @@ fn report(end: End, budget: u32, store: &mut [u16]) -> Report
     let End { stop, at } = end;
     let steps = at.account.steps();
     let left = at.account.left();
-    let Counts { pending, parked } = order_goals(store, at.parked, at.held);
+    let Counts { pending, parked } = order_goals(store, at.parts);
     Report {
         stop,
         steps,
         cost: budget - left,
         answers: at.listed,
-        pending,
-        parked,
+        pending: pending as u32,
+        parked: parked as u32,
     }
 }
 
-// Runs level 0 from the goals stored until it stops, and puts the goals that are left in order.
+// Runs level 0 from the goals stored until it stops, and puts the goals that are left in order. That the store is short is a clause of three functions:
+// the store is the caller's slice, lent again in parts, so a type round it would be made anew at each.
 pub fn top(
     clauses: &Clauses<'_>,
     start: Start,
@@ -193,18 +215,13 @@ pub fn top(
     store: &mut [u16],
     work: &mut Workspace<'_>,
 ) -> Report
-    requires opening { SomeOpening clauses.now.deck.now store.old start.parked start.held }
+    requires opening { SomeOpening clauses.now.deck.words.now store.old start.parts.parked start.parts.held }
     requires short_store { length store.old ≤ 65535 }
-    ensures { (d : Deck) (gs : List Goal) (ms : List Marked) → open_deck clauses.now.deck.now ≡ accepted d → Stored d.symbols store.old start.parked start.held (opening gs ms) → Topped d answers.old store.old gs ms start.budget answers.new store.new result }
+    ensures { (d : Deck) (gs : List Goal) (ms : List Marked) → open_deck clauses.now.deck.words.now ≡ accepted d → Stored d.symbols store.old start.parts.parked start.parts.held (opening gs ms) → Topped d answers.old store.old gs ms start.budget answers.new store.new result }
 {
-    let Start {
-        parked,
-        held,
-        budget,
-    } = start;
+    let Start { parts, budget } = start;
     let mut at = Progress {
-        parked,
-        held,
+        parts,
         account: Account::new(budget),
         filled: 0,
         listed: 0,
@@ -223,14 +240,15 @@ pub fn top(
 }
 
 // Puts the pending goals at the start of the store, in order, and the parked ones behind them, and counts both.
-fn order_goals(store: &mut [u16], parked: usize, held: usize) -> Counts
-    requires stored { SomeStored store.old parked held }
-    requires short_store { length store.old ≤ 65535 }
-    ensures { (S : List Symbol) (l : Level) → Stored S store.old parked held l → Ordered l store.new result }
+fn order_goals(store: &mut [u16], parts: Parts) -> Counts
+    requires { SomeStored store.old parts.parked parts.held }
+    ensures ordered { (S : List Symbol) (l : Level) → Stored S store.old parts.parked parts.held l → Ordered l store.new result }
+    ensures few { (result.pending ≤ length store.old) × (result.parked ≤ length store.old) }
 {
+    let Parts { parked, held } = parts;
     let end = parked + held;
-    words::reverse_range(store, 0, end);
-    words::reverse_range(store, held, end);
+    store[..end].reverse();
+    store[held..end].reverse();
     Counts {
         pending: count_goals(&store[..held]),
         parked: count_goals(&store[held..end]),
@@ -238,16 +256,16 @@ fn order_goals(store: &mut [u16], parked: usize, held: usize) -> Counts
 }
 
 // How many goals stand one after another in the words.
-fn count_goals(words: &[u16]) -> u32
-    requires written { SomeWritten words.now }
-    requires short { length words.now ≤ 65535 }
-    ensures { (S : List Symbol) (ms : List Marked) → Written S words.now ms → result ≡ length ms }
+fn count_goals(words: &[u16]) -> usize
+    requires { SomeWritten words.now }
+    ensures count { (S : List Symbol) (ms : List Marked) → Written S words.now ms → result ≡ length ms }
+    ensures few { result ≤ length words.now }
 {
     let mut rest = words;
     let mut n = 0;
-    // No `for`: each goal says by its length where the next one begins.
+    // An iterator of goals would be a struct with its ghost members, for this one loop.
     while let [first, ..] = rest {
-        rest = &rest[usize::from(*first % 4096)..];
+        rest = &rest[usize::from(*first % MARK)..];
         n += 1;
     }
     n
@@ -258,8 +276,8 @@ pub fn resume(store: &mut [u16], held: usize, until: usize)
     requires { (held ≤ until) × (until ≤ length store.old) }
     ensures { (S : List Symbol) (gs : List Goal) (ms : List Marked) → InOrder S store.old held until gs ms → Stored S store.new (until - held) held (opening gs ms) }
 {
-    words::reverse_range(store, held, until);
-    words::reverse_range(store, 0, until);
+    store[held..until].reverse();
+    store[..until].reverse();
 }
 
 // Writes the first goal of a query, mirrored, at the start of the store. The result is its number of words.
@@ -270,13 +288,12 @@ pub fn first(query: &[u16], store: &mut [u16]) -> usize
 {
     let n = variables(query);
     let held = 2 + n + query.len();
-    // `as` is proved to lose nothing here; `u16::try_from` would want an answer for what does not fit.
     store[0] = held as u16;
     store[1] = n as u16;
     for i in 0..n {
-        store[2 + i] = (32768 + i) as u16;
+        store[2 + i] = (VARIABLE + i) as u16;
     }
-    words::copy(query, query.len(), store, 2 + n);
-    words::reverse_range(store, 0, held);
+    store[2 + n..held].copy_from_slice(query);
+    store[..held].reverse();
     held
 }

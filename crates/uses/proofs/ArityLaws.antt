@@ -13,6 +13,8 @@ use Rattle.text_rules.specs.TextGrammar.{item, unread, same_bytes}
 use Rattle.text_rules.specs.TextWords.{declarations, number_of, arity, has_arity, declared_at}
 use Rattle.text_rules.specs.TextWords as rules
 use Rattle.text_rules.specs.Text.{text_declarations}
+use Rattle.text.specs.declared.grammar.Key.{Key}
+use Rattle.text.specs.declared.grammar.Key.TheVariants.{Function, Predicate}
 use Rattle.text.specs.Hash.{last_with, found_at, is_name}
 use Rattle.text.specs.Names.{Table, name_at}
 use Rattle.text.proofs.NameLaws.{bytes_same, found_none, found_some, last-below, last-passes}
@@ -44,13 +46,13 @@ pub takes-arity : (ds : List rules.Declaration) (wanted : List ℕ) (k : ℕ) �
 takes-arity ds wanted k = takes-from ds wanted k 0 ds refl
 
 -- A name that is found has a place.
-pub found_fits : (t : Table) (bytes : List ℕ) (r : Option ℕ) → length t.entries ≤ 4096 → r ≡ found_at (last_with (is_name bytes) (name_at t) (length t.entries)) → IfSome r (λ j. j < 4096)
-found_fits t bytes None l e = tt
-found_fits t bytes (Some j) l e = omega (arith, found_some (last_with (is_name bytes) (name_at t) (length t.entries)) j e, last-below (is_name bytes) (name_at t) (length t.entries))
+pub found_fits : (n : ℕ) (r : Option ℕ) → IfSome r (λ j. (j < n) × (j < 4096)) → IfSome r (λ j. j < 4096)
+found_fits n None h = tt
+found_fits n (Some j) h = h.1
 
 -- The first name that does not agree.
 pub first-from :
-    (found : List (Option ℕ)) (t : Table) (n : ℕ) (r : Option ℕ) → n ≡ length t.entries
+    (found : List (Option ℕ)) (t : Table ℕ) (n : ℕ) (r : Option ℕ) → n ≡ length t.entries
     → MatchOption r ((i : ℕ) → 0 ≤ i → i < n → agrees_at found t i ≡ true)
     (λ i. (0 ≤ i) × (i < n) × (agrees_at found t i ≡ false) × ((j : ℕ) → 0 ≤ j → j < i → agrees_at found t j ≡ true))
     → FirstOther found t r
@@ -62,9 +64,9 @@ abbrev or_later : Option ℕ → Option ℕ → Option ℕ
 or_later None later = later
 or_later (Some a) later = Some a
 
-arity-of : (p : Bool) (k : ℕ) → arity (symbol_of p k) ≡ k
-arity-of true k = refl
-arity-of false k = refl
+arity-of : (key : Key) (k : ℕ) → arity (symbol_of key k) ≡ k
+arity-of Function k = refl
+arity-of Predicate k = refl
 
 other_name : (xs ys : List ℕ) → (xs ≡ ys → ⊥) → same_bytes xs ys ≡ false
 other_name xs ys f = go (same_bytes xs ys) refl
@@ -74,7 +76,7 @@ other_name xs ys f = go (same_bytes xs ys) refl
     go false e = e
 
 -- The declarations before `at` are looked up.
-pub record WalkedTo (t : Table) (found : List (Option ℕ)) (at : ℕ) : Type 0 where
+pub record WalkedTo (t : Table ℕ) (found : List (Option ℕ)) (at : ℕ) : Type 0 where
   pub inside : at ≤ length t.text
   pub readable : unread item (tokens 0 (drop at t.text)) ≡ none
   pub room : length found ≡ 4096
@@ -85,7 +87,7 @@ nothing zero j = refl
 nothing (suc n) zero = refl
 nothing (suc n) (suc j) = nothing n j
 
-pub walk_start : (t : Table) → unread item (tokens 0 t.text) ≡ none → WalkedTo t (replicate 4096 None) 0
+pub walk_start : (t : Table ℕ) → unread item (tokens 0 t.text) ≡ none → WalkedTo t (replicate 4096 None) 0
 unfolding text_declarations
 walk_start t e =
     record {
@@ -95,7 +97,7 @@ walk_start t e =
       same = λ j p. ap (λ a. or_later a (arity_in (declarations 0 (tokens 0 t.text)) (name_at t j))) (sym (nothing 4096 j));
     }
 
-module _ (t : Table) (found : List (Option ℕ)) (at : ℕ) (W : WalkedTo t found at) where
+module _ (t : Table ℕ) (found : List (Option ℕ)) (at : ℕ) (W : WalkedTo t found at) where
   module _ (differ : Distinct t) (d : Declaration) (h : Declares t.text at d) (r : Option ℕ)
       (e : r ≡ found_at (last_with (is_name (take (d.to - d.from) (drop d.from t.text))) (name_at t) (length t.entries))) where
     abbrev this : List ℕ
@@ -140,7 +142,7 @@ module _ (t : Table) (found : List (Option ℕ)) (at : ℕ) (W : WalkedTo t foun
       step j l = go (is? r)
         where
           here : r ≡ Some j → arity_in (first ∷ rest) (name_at t j) ≡ Some d.arity
-          here q = let s : same_bytes (name_at t j) first.name ≡ true = ap (same_bytes (name_at t j)) named ∙ is-this j q in rw (s, arity_in) (ap Some (arity-of d.predicate d.arity))
+          here q = let s : same_bytes (name_at t j) first.name ≡ true = ap (same_bytes (name_at t j)) named ∙ is-this j q in rw (s, arity_in) (ap Some (arity-of d.key d.arity))
 
           kept : r ≡ Some j → (a : Option ℕ) → get_or found j None ≡ a → or_later (get_or found j None) (Some d.arity) ≡ or_later (get_or found' j None) (arity_in rest (name_at t j))
           kept q None z = ap (λ a. or_later a (Some d.arity)) z ∙ sym (ap (λ a. or_later a (arity_in rest (name_at t j))) (P.here j q z))

@@ -5,10 +5,14 @@ use mathlib.Core.Bool.{Bool, true, false}
 use mathlib.Core.Option.{Option, none, some}
 use mathlib.Core.List.{List, [], ◌∷◌}
 use native.Mathlib.Omega.{arith}
+use native.Mathlib.Decide.{ℕ_discrete}
+use lib.Dec.{eqb}
+use borrow.Author.Tests.{eqb-true}
+use Rattle.std.proofs.Math.Option.{none-ne-some}
 use lib.ListN.{length, get_or, drop}
 use Rattle.text_rules.specs.TextTokens.{Kind, name, variable, dot, tilde, opening, Token, tokens}
-use Rattle.text_rules.specs.TextGrammar.{is, same_kind}
-use Rattle.text_rules.specs.TextWords.{Declaration, commas, given_arguments, Use, Entry, entry_after, entries, well_used, misused, clause_tokens}
+use Rattle.text_rules.specs.TextGrammar.{item, unread, is, same_kind}
+use Rattle.text_rules.specs.TextWords.{Declaration, arity, has_arity, declared_at, number_of, commas, given_arguments, Use, Entry, entry_after, entries, well_used, misused, clause_tokens}
 use Rattle.text_rules.specs.Text.{place_of, text_declarations, text_entries}
 use Rattle.text.specs.declared.tokens.Kind.{Kind as Scanned_kind}
 use Rattle.text.specs.declared.tokens.Kind.TheVariants.{Name, Ending, Opening}
@@ -17,9 +21,10 @@ use Rattle.text.specs.Kinds.{kind_of}
 use Rattle.text.specs.Scan.{tokens_from, Next}
 use Rattle.text.proofs.ReadLaws.{token_of}
 use Rattle.text.proofs.TokenLaws.{not-ending}
-use Rattle.uses.specs.Pairs.{in_brackets, Given}
-use Rattle.uses.specs.Uses.{takes, fits, first_misuse, misuse_from, GivenAt}
-use Rattle.uses.proofs.BracketLaws.{drop-front}
+use Rattle.uses.specs.declared.walk.Use.{Use as Used}
+use Rattle.uses.specs.Pairs.{in_brackets, GivenFrom, told}
+use Rattle.uses.specs.Uses.{takes, fits, first_misuse, misuse_from, UseFrom}
+use Rattle.naming.proofs.ArityLaws.{arity-small}
 use Rattle.uses.proofs.CommaLaws.{same_as, brackets-opening, brackets-other}
 
 -- The rules' first misused name, token by token.
@@ -75,6 +80,34 @@ fits-other ds kind bs ts f = rw (not-name kind f, fits) refl
 pub fits-name : (ds : List Declaration) (kind : Scanned_kind) (bs : List ℕ) (ts : List Token) → kind ≡ Name → fits ds (kind_of kind) bs ts ≡ takes ds bs (given_arguments ts)
 fits-name ds kind bs ts e = ap (λ k. fits ds (kind_of k) bs ts) e
 
+unequal : (a b : ℕ) → (a ≡ b → ⊥) → eqb a b ≡ false
+unequal a b f = go (eqb a b) refl
+  where
+    go : (x : Bool) → eqb a b ≡ x → eqb a b ≡ false
+    go true e = absurd (f (eqb-true a b e))
+    go false e = e
+
+-- Whether a name takes so many arguments is seen by the number told.
+has-told : (o : Option Declaration) → ((d : Declaration) → o ≡ some d → arity d.symbol ≤ 15) → (k : ℕ) → has_arity o k ≡ has_arity o (told k)
+unfolding has_arity
+has-told none h k = refl
+has-told (some d) h k = go (ℕ_discrete (arity d.symbol) k)
+  where
+    l : arity d.symbol ≤ 15
+    l = h d refl
+
+    go : Dec (arity d.symbol ≡ k) → eqb (arity d.symbol) k ≡ eqb (arity d.symbol) (told k)
+    go (yes e) = let t : told k ≡ k = omega (arith, l, e) in ap (eqb (arity d.symbol)) (sym t)
+    go (no f) = unequal (arity d.symbol) k f ∙ sym (unequal (arity d.symbol) (told k) (λ e. f (omega (arith, l, e))))
+
+takes-told : (text : List ℕ) → unread item (tokens 0 text) ≡ none → (bytes : List ℕ) (k : ℕ) → takes (text_declarations text) bytes k ≡ takes (text_declarations text) bytes (told k)
+unfolding declared_at
+takes-told text e bytes k = let ds = text_declarations text in has-told (declared_at ds (number_of bytes 0 ds)) (go (number_of bytes 0 ds)) k
+  where
+    go : (n : Option ℕ) (d : Declaration) → declared_at (text_declarations text) n ≡ some d → arity d.symbol ≤ 15
+    go none d q = absurd (none-ne-some d q)
+    go (some j) d q = arity-small text e j d q
+
 -- The next token, at the end of the text and before it.
 module _ (text : List ℕ) (at : ℕ) (r : Scanned) (n : Next text at r) where
   abbrev this : Token
@@ -90,14 +123,17 @@ module _ (text : List ℕ) (at : ℕ) (r : Scanned) (n : Next text at r) where
   token-more f = n.scanned ∙ ap (this ∷◌) (not-ending r.kind text r.to f)
 
   -- The arguments of a name, by the token after it.
-  pub some-arguments : (given : List ℕ) (i : ℕ) → GivenAt given i (tokens 0 (drop at text)) → r.kind ≡ Opening → get_or given i 0 ≡ given_arguments (tokens 0 (drop at text))
+  pub some-arguments : (given : List ℕ) (i : ℕ) → i < 4096 → GivenFrom given i (tokens 0 (drop at text)) → r.kind ≡ Opening → get_or given i 0 ≡ told (given_arguments (tokens 0 (drop at text)))
   unfolding given_arguments
-  some-arguments given i g e =
+  some-arguments given i l g e =
       let all = token-more (λ q. cc) in
       let k : this.kind ≡ opening = ap kind_of e in
       let o : is opening this ≡ true = same_as this opening k opening in
       let same : given_arguments (this ∷ after) ≡ suc (commas 0 after) = rw (o, given_arguments) refl in
-      g (suc (commas 0 after)) (in_brackets after) (ap in_brackets all ∙ brackets-opening this after k) ∙ sym (ap given_arguments all ∙ same)
+      let z : i + 0 ≡ i = omega arith in
+      ap (λ j. get_or given j 0) (sym z)
+      ∙ g 0 (suc (commas 0 after)) (in_brackets after) (omega arith) (ap in_brackets all ∙ brackets-opening this after k)
+      ∙ ap told (sym (ap given_arguments all ∙ same))
 
   -- One token, and the first misuse from it on.
   abbrev ds : List Declaration
@@ -121,61 +157,40 @@ module _ (text : List ℕ) (at : ℕ) (r : Scanned) (n : Next text at r) where
     pub token-goes : ok ≡ true → misuse_from text at ≡ misuse_from text r.to
     token-goes e = ap (first_misuse ds) (token-more f) ∙ misuse-goes ds this after e
 
--- i pairs of brackets are passed from `start` to `at`.
-pub record PairsTo (text : List ℕ) (start at i : ℕ) : Type 0 where
-  pub inside : at ≤ length text
-  pub later : start + i ≤ at
-  pub most : i ≤ 4096
-  pub pairs : drop i (in_brackets (tokens 0 (drop start text))) ≡ in_brackets (tokens 0 (drop at text))
+  -- The pairs of brackets after one token.
+  module _ (f : r.kind ≡ Ending → ⊥) (given : List ℕ) (i : ℕ) (g : GivenFrom given i (tokens 0 (drop at text))) where
+    pub given-same : (r.kind ≡ Opening → ⊥) → GivenFrom given i (tokens 0 (drop r.to text))
+    given-same h j k ks l e = g j k ks l (ap (drop j) (ap in_brackets (token-more f) ∙ brackets-other this after (not-opening r.kind h)) ∙ e)
 
-module _ (text : List ℕ) (start at i : ℕ) (C : PairsTo text start at i) (r : Scanned) (n : Next text at r) where
-  pub given-here : i < 4096 → (given : List ℕ) → Given (tokens 0 (drop start text)) given → r.kind ≡ Name → GivenAt given i (tokens 0 (drop r.to text))
-  given-here l given g e k ks q =
-      let o : is opening (this text at r n) ≡ false = ap (λ k. same_kind opening (kind_of k)) e in
-      g i k ks l (C.pairs ∙ ap in_brackets (token-more text at r n (λ z. cc)) ∙ brackets-other (this text at r n) (tokens 0 (drop r.to text)) o ∙ q)
+    pub given-next : r.kind ≡ Opening → GivenFrom given (i + 1) (tokens 0 (drop r.to text))
+    given-next h j k ks l e =
+        let o : i + 1 + j ≡ i + suc j = omega arith in
+        let one = ap in_brackets (token-more f) ∙ brackets-opening this after (ap kind_of h) in
+        ap (λ n. get_or given n 0) o ∙ g (suc j) k ks (omega arith) (ap (drop (suc j)) one ∙ e)
 
-  pub pairs-on : (r.kind ≡ Ending → ⊥) → i < 4096 → (j : ℕ) → (r.kind ≡ Opening → j ≡ i + 1) × ((r.kind ≡ Opening → ⊥) → j ≡ i) → PairsTo text start r.to j
-  pairs-on f l j h = go (is opening (this text at r n)) refl
-    where
-      all : List ℕ
-      all = in_brackets (tokens 0 (drop start text))
+  -- The uses from a place on, over a token that is no name, and at a name.
+  pub pass-other : (r.kind ≡ Ending → ⊥) → (r.kind ≡ Name → ⊥) → misuse_from text at ≡ misuse_from text r.to
+  pass-other f g = token-goes f (fits-other ds r.kind this.bytes after g)
 
-      before : drop i all ≡ in_brackets (this text at r n ∷ after text at r n)
-      before = C.pairs ∙ ap in_brackets (token-more text at r n f)
+  module _ (readable : unread item (tokens 0 text) ≡ none) (e : r.kind ≡ Name) (k : ℕ) (K : k ≡ told (given_arguments after)) where
+    abbrev used : Used
+    used = record { from = r.from; to = r.to; arguments = k }
 
-      is-opening : (k : Scanned_kind) → same_kind opening (kind_of k) ≡ true → k ≡ Opening
-      is-opening k e = grind (arith, e)
+    taken : ok ≡ takes ds this.bytes k
+    taken = fits-name ds r.kind this.bytes after e ∙ takes-told text readable this.bytes (given_arguments after) ∙ ap (takes ds this.bytes) (sym K)
 
-      go : (b : Bool) → is opening (this text at r n) ≡ b → PairsTo text start r.to j
-      go true e =
-          let q = is-opening r.kind e in
-          let one = h.0 q in
-          record {
-            inside = n.inside;
-            later = omega (arith, C.later, n.later, n.progress f);
-            most = omega arith;
-            pairs =
-                ap (λ m. drop m all) one
-                ∙ (drop-front all i (suc (commas 0 (after text at r n))) (in_brackets (after text at r n))
-                (before ∙ brackets-opening (this text at r n) (after text at r n) (ap kind_of q))).1;
-          }
-      go false e =
-          let same = h.1 (λ q. let z = ap (λ k. same_kind opening (kind_of k)) q in cc) in
-          record {
-            inside = n.inside;
-            later = omega (arith, C.later, n.later, n.progress f);
-            most = omega arith;
-            pairs = ap (λ m. drop m all) same ∙ before ∙ brackets-other (this text at r n) (after text at r n) e;
-          }
+    pub use-ahead : (start : ℕ) → start ≤ at → misuse_from text start ≡ misuse_from text at → UseFrom text start used
+    use-ahead start l same =
+        let f : r.kind ≡ Ending → ⊥ = λ q. cc in
+        record {
+          later = omega (arith, n.later);
+          forward = n.progress f;
+          inside = n.inside;
+          well = λ w. same ∙ token-goes f (taken ∙ w);
+          badly = λ w. ap (place_of text) same ∙ token-stops (taken ∙ w);
+        }
 
 -- The whole.
 pub clauses-misused : (text : List ℕ) (end : ℕ) → clause_tokens 0 (tokens 0 text) ≡ tokens 0 (drop end text) → misused (text_declarations text) (text_entries text) ≡ misuse_from text end
 unfolding text_entries
 clauses-misused text end e = misused-first (text_declarations text) dot (clause_tokens 0 (tokens 0 text)) ∙ ap (first_misuse (text_declarations text)) e
-
-pub record SearchedTo (text : List ℕ) (at : ℕ) : Type 0 where
-  pub inside : at ≤ length text
-  pub same : misused (text_declarations text) (text_entries text) ≡ misuse_from text at
-
-pub search-start : (text : List ℕ) (end : ℕ) → end ≤ length text → clause_tokens 0 (tokens 0 text) ≡ tokens 0 (drop end text) → SearchedTo text end
-search-start text end l e = record { inside = l; same = clauses-misused text end e }

@@ -17,7 +17,7 @@ use Rattle.naming.specs.Table.{Declared}
 use Rattle.naming.proofs.UseLaws.{found_none, found_some}
 use Rattle.uses.specs.Uses.{takes}
 
-module _ (t : Table) (D : Declared t) (bytes : List ℕ) (r : Option ℕ) (found : r ≡ found_at (last_with (is_name bytes) (name_at t) (length t.entries))) where
+module _ (t : Table ℕ) (D : Declared t) (bytes : List ℕ) (r : Option ℕ) (found : r ≡ found_at (last_with (is_name bytes) (name_at t) (length t.entries))) where
   abbrev used : ℕ → Use
   used k = record { name = bytes; arguments = k; left = 0 }
 

@@ -1,27 +1,22 @@
 // The names that are used, each once, in a table with the numbers of their arguments.
-ghost use Rattle.std.specs.Prelude.{◌≡◌, ◌≤◌, ◌<◌, length, drop};
-ghost use Rattle.text_rules.specs.TextTokens.{tokens};
-ghost use Rattle.uses.specs.Pairs.{Given};
-ghost use Rattle.uses.specs.Uses.{GivenAt};
+ghost use Rattle.std.specs.Prelude.{◌≡◌, ◌≤◌, ◌<◌, length};
 ghost use Rattle.uses.specs.Batches.{Noted, Gathers};
 
-use crate::checking::{arguments, passed};
-use text::names::{Entry, Names};
-use text::tokens::{Kind, Token, next_token};
+use crate::walk::{Use, Uses};
+use text::names::{Entry, Names, ROOM};
+use text::readable::Readable;
 
-// One token more; false for a name that is in the table with other arguments, or for which there is no room.
-fn note(names: &mut Names, brackets: &[usize; 4096], i: usize, t: Token) -> bool
-    requires token { (t.from ≤ t.to) × (t.to ≤ length names.old.text) }
-    requires given { (i < 4096) × (t.kind ≡ Kind.Name → GivenAt brackets.now i (tokens 0 (drop t.to names.old.text))) }
-    ensures { Noted names.old t names.new result }
+// One use more; false for a name that is in the table with other arguments, or for which there is no room.
+fn note(names: &mut Names<u16, ROOM>, u: Use) -> bool
+    requires { (u.from < u.to) × (u.to ≤ length names.old.text) }
+    ensures { Noted names.old u names.new result }
 {
-    let Kind::Name = t.kind else {
-        return true;
-    };
+    let Use {
+        from,
+        to,
+        arguments: value,
+    } = u;
     let text = names.text();
-    let value = arguments(text, brackets, i, t.to);
-    let from = t.from;
-    let to = t.to;
     if let Some(j) = names.find(&text[from..to]) {
         return names.get(j).value == value;
     }
@@ -32,27 +27,19 @@ fn note(names: &mut Names, brackets: &[usize; 4096], i: usize, t: Token) -> bool
     true
 }
 
-// The names from `start` on, as far as the arguments in brackets are given: the place after them, if more may follow.
-pub fn gather(names: &mut Names, start: usize, brackets: &[usize; 4096]) -> Option<usize>
+// The names from `start` on, as far as there is room: the place after them, if more may follow. `same`: a table may be of any text.
+pub fn gather(text: Readable, names: &mut Names<u16, ROOM>, start: usize) -> Option<usize>
+    requires same { names.old.text ≡ text.text.now }
     requires start { (start ≤ length names.old.text) × (length names.old.entries ≡ 0) }
-    requires given { Given (tokens 0 (drop start names.old.text)) brackets.now }
     ensures text { names.new.text ≡ names.old.text }
     ensures gathered { Gathers names.new start result }
 {
-    let text = names.text();
     let mut at = start;
-    let mut i = 0;
-    // No `for`: the place moves by a token's length, and i only at brackets.
-    while i < 4096 {
-        let t = next_token(text, at);
-        if let Kind::Ending = t.kind {
-            return None;
-        }
-        if !note(names, brackets, i, t) {
+    for u in Uses::new(text, start) {
+        if !note(names, u) {
             return Some(at);
         }
-        i = passed(t.kind, i);
-        at = t.to;
+        at = u.to;
     }
-    Some(at)
+    None
 }

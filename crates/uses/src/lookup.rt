@@ -1,21 +1,17 @@
 // Names in the table of declarations.
 ghost use Rattle.std.specs.Prelude.{◌≡◌};
-ghost use Rattle.std.proofs.Math.Option.{none};
-ghost use Rattle.text_rules.specs.TextTokens.{tokens};
-ghost use Rattle.text_rules.specs.TextGrammar.{item, unread};
 ghost use Rattle.text_rules.specs.Text.{text_declarations};
-ghost use Rattle.naming.specs.Table.{Declared};
 ghost use Rattle.uses.specs.Uses.{takes};
 
-use text::names::Names;
+use naming::table::DeclaredNames;
 
-// Whether the name of those bytes is declared with that many arguments.
-pub fn takes(names: &Names, bytes: &[u8], arguments: usize) -> bool
-    requires { (unread item (tokens 0 names.now.text) ≡ none) × Declared names.now }
-    ensures { result ≡ takes (text_declarations names.now.text) bytes.now arguments }
+// Whether the name of those bytes is declared with that many arguments. The table has words, as encoding writes them: an arity, plus 256 for a predicate; `signature::arity` reads the words of a deck, and there is none yet.
+// A `match` (c): with `is_some_and` the two cases, each by its own lemma, are one goal, `returns`, which stayed open.
+pub fn takes(names: DeclaredNames, bytes: &[u8], arguments: u16) -> bool
+    ensures { result ≡ takes (text_declarations names.entry.all.text.text.now) bytes.now arguments }
 {
-    match names.find(bytes) {
-        Some(j) => names.get(j).value % 256 == arguments,
+    match names.names.find(bytes) {
+        Some(j) => names.names.get(j).value % 256 == arguments,
         None => false,
     }
 }

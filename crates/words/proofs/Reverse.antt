@@ -4,7 +4,8 @@ use mathlib.Core.Path.{◌≡◌, refl, ap, sym, ◌∙◌}
 use mathlib.Core.List.{List, [], ◌∷◌, ◌++◌, reverse, reverse-append, reverse-cons, append_assoc}
 use native.Mathlib.Omega.{arith}
 use lib.ListN.{length, get_or, take, drop, length-append, length-drop, length-reverse}
-use lib.Seq.{take_at, drop_at, get_or_at, split_at, get_or-take, length-take-le, take-add}
+use borrow.Rule.Slice.PartMut.{put_mid}
+use lib.Seq.{drop-drop, take_at, drop_at, get_or_at, split_at, get_or-take, length-take-le, take-add}
 
 abbrev pub rev : ℕ → ℕ → List ℕ → List ℕ
 rev a b s = take a s ++ (reverse (take (b - a) (drop a s)) ++ drop b s)
@@ -16,6 +17,13 @@ rev-parts p m q a b la lb =
     let l : length (p ++ m) ≡ b = length-append p m ∙ omega arith in
     let d : drop b (p ++ (m ++ q)) ≡ q = ap (drop b) (sym (append_assoc p m q)) ∙ drop_at (p ++ m) q b l in
     rw (d, take_at p (m ++ q) a la, drop_at p (m ++ q) a la, k, take_at m q (length m) refl)
+
+-- The words from a up to b of a slice reversed, or the first b of them, as the slice then stands.
+pub put_reversed : (a b : ℕ) (s m : List ℕ) → a ≤ b → m ≡ reverse (take (b - a) (drop a s)) → put_mid a (b - a) s m ≡ rev a b s
+put_reversed a b s m h e = let n : a + (b - a) ≡ b = omega arith in rw (e, drop-drop (b - a) a s, n)
+
+pub front_reversed : (b : ℕ) (s m : List ℕ) → m ≡ reverse (take b s) → m ++ drop b s ≡ rev 0 b s
+front_reversed b s m e = let n : b - 0 ≡ b = omega arith in rw (e, n)
 
 get_or-reverse : (l : List ℕ) (i k : ℕ) → i + 1 + k ≡ length l → get_or (reverse l) i 0 ≡ get_or l k 0
 get_or-reverse l i k e =

@@ -1,12 +1,14 @@
--- What the functions of this crate leave in a store that holds, at the end of its first `held` words, the mirror image of a list of words. Assumes
--- nothing. `rev a b s` is what `reverse_range` leaves, `down a b d s` what `move_down` leaves.
+-- What copies and reversals leave in a store that holds, at the end of its first `held` words, the mirror image of a list of words. Assumes
+-- nothing. `rev a b s` is what a reversal of the words from a up to b leaves, `down a b d s` what `copy_within` leaves there.
 use Prim.Native.Nat.{ℕ, ◌+◌, ◌-◌, ◌≤◌, ◌<◌}
 use mathlib.Core.Path.{◌≡◌, refl, ap, ap₂, sym, ◌∙◌}
 use mathlib.Core.List.{List, [], ◌++◌, reverse, reverse-append, reverse-reverse, append_assoc}
 use native.Mathlib.Omega.{arith}
 use lib.ListN.{length, get_or, take, drop, length-append, length-take, length-drop, length-reverse, take-append-drop}
 use lib.Seq.{sets, take_at, drop_at, take-append-le, length-take-le, take-add}
-use Rattle.words.proofs.Reverse.{rev-parts, get_or-mirrored}
+use borrow.Rule.Slice.PartMut.{put_mid}
+use Rattle.words.proofs.Sets.{put_sets}
+use Rattle.words.proofs.Reverse.{rev-parts, reverse_end, get_or-mirrored}
 pub use lib.Seq.{length-sets}
 pub use Rattle.words.proofs.Sets.{sets-append, take-sets-before, take-sets, drop-sets, down}
 pub use Rattle.words.proofs.Reverse.{rev}
@@ -108,6 +110,16 @@ pushed s xs rest held end l k h =
     let n : held + length (reverse xs) ≡ end = omega (arith, length-reverse xs) in
     let e : take held s ++ reverse xs ≡ reverse (xs ++ rest) = rw (h, reverse-append xs rest) in
     (take-sets (reverse xs) s end held n k ∙ e, drop-sets (reverse xs) s end held (omega arith))
+
+-- copying: `image` is the mirror image of the n words before place `end` of `from`, written from place `at` on
+pub image-copied : (to from image : List ℕ) (at end n : ℕ) → n ≤ end → end ≤ length from → at + n ≤ length to
+    → image ≡ reverse (take (end - (end - n)) (drop (end - n) from)) → put_mid at (at + n - at) to image ≡ sets to at (take n (reverse (take end from)))
+image-copied to from image at end n h k l e =
+    let i = e ∙ reverse_end from end n h k in
+    let m : length image ≡ n =
+    ap length i ∙ length-take-le n (reverse (take end from)) (omega (arith, length-reverse (take end from), length-take-le end from k)) in
+    let q : at + n - at ≡ n = omega arith in
+    rw q (put_sets to image at n l m ∙ ap (sets to at) i)
 
 -- reading
 pub read_first : (s xs rest : List ℕ) (held n : ℕ) → take held s ≡ reverse (xs ++ rest) → n ≤ length xs → take n (reverse (take held s)) ≡ take n xs

@@ -18,6 +18,7 @@ fn main(rt: HostRuntime) -> io::Result<()> {
 
 // Reads the deck from the file, if it is open, and writes its text.
 // No more is read than it takes to tell that there is too much.
+// No function for all programs takes the rule's function: this contract would stay here, and that function would need one as long, over any rule.
 fn answer<D: Read, W: Write>(file: &mut Option<D>, to: &mut W) -> io::Result<()>
     ensures { OnOk result ((deck : Option (List ℕ))
         × TakesFrom D.remaining file.old file.new deck

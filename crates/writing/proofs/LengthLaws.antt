@@ -7,7 +7,7 @@ use mathlib.Core.List.{List, [], ◌∷◌, ◌++◌}
 use native.Mathlib.Omega.{arith}
 use native.Mathlib.Decide.{dec_lt}
 use lib.Dec.{leb}
-use lib.ListN.{length, get_or, get_elem?, length-append}
+use lib.ListN.{length, get_elem?, length-append}
 use Rattle.std.specs.Prelude.{sum_by, count_by}
 use Rattle.std.proofs.lemmas.List.Recursion.{is_sum_by}
 use Rattle.rules.specs.Terms.{Term, var, app, Terms, nil, cons, count, vars_term, vars_terms}
@@ -19,7 +19,6 @@ use Rattle.rules.specs.Listing.{digits, decimal}
 use Rattle.text_rules.specs.TextWriter.{symbol_text, literal_text, literals_text, body_text, clause_text}
 use Rattle.rules.proofs.CellLaws.{Small, Written, cell-written, read_cell-var, after-term, after-terms, cell-symbol, cell-negated, cell-variable}
 use Rattle.deck.specs.Kinds.{symbol_of, kind_of}
-use Rattle.deck.proofs.KindLaws.{small-variable}
 use Rattle.deck.specs.declared.kinds.Kind.{Kind}
 use Rattle.deck.specs.declared.kinds.Kind.TheVariants.{Variable, Function, Positive, Negative, Invalid}
 use Rattle.listing.specs.Standing.{show_term, show_arguments, show_more}
@@ -261,16 +260,16 @@ module _ (S : List Symbol) where
   brackets-short zero h = omega arith
   brackets-short (suc k) h = omega arith
 
-  share-short : All WfSymbol S → (c : ℕ) → c < 65536 → cell_bytes (kind_of (read_cell S c)) c ≤ 32
-  share-short w c h = go (kind_of (read_cell S c)) refl (known-arity S w c)
+  share-short : All WfSymbol S → (c : ℕ) → cell_bytes (kind_of (read_cell S c)) c ≤ 32
+  share-short w c = go (read_cell S c) (cell-written S c) (known-arity S w c)
     where
-      go : (k : Kind) → kind_of (read_cell S c) ≡ k → arity_of k ≤ 15 → cell_bytes k c ≤ 32
-      go (Variable v) e a = omega (arith, decimal-length 4 v (omega (arith, small-variable S c v e)))
-      go (Function k) e a = omega (arith, decimal-length 4 c (omega arith), brackets-short k a)
-      go (Positive k) e a = omega (arith, decimal-length 4 c (omega arith), brackets-short k a)
-      go (Negative k) e a = omega (arith, decimal-length 4 (c - 16384) (omega arith), brackets-short k a)
-      go Invalid e a = omega arith
+      go : (x : Cell) → Written x c → arity_of (kind_of x) ≤ 15 → cell_bytes (kind_of x) c ≤ 32
+      go (variable v) t a = omega (arith, decimal-length 4 v (omega (arith, t.1)))
+      go (function f k) t a = omega (arith, decimal-length 4 c (omega (arith, t.1)), brackets-short k a)
+      go (positive p k) t a = omega (arith, decimal-length 4 c (omega (arith, t.1)), brackets-short k a)
+      go (negative p k) t a = omega (arith, decimal-length 4 (c - 16384) (omega (arith, t.1)), brackets-short k a)
+      go invalid t a = omega arith
 
-  pub row-short : All WfSymbol S → (cells : List ℕ) → ((i : ℕ) → get_or cells i 0 < 65536) → row_bytes S cells ≤ 32 * length cells
-  row-short w [] h = omega arith
-  row-short w (c ∷ cells) h = omega (arith, share-short w c (h 0), row-short w cells (λ i. h (suc i)))
+  pub row-short : All WfSymbol S → (cells : List ℕ) → row_bytes S cells ≤ 32 * length cells
+  row-short w [] = omega arith
+  row-short w (c ∷ cells) = omega (arith, share-short w c, row-short w cells)

@@ -2,11 +2,16 @@
 use Rattle.std.specs.Prelude.{ℕ, zero, suc, ◌+◌, ◌-◌, Bool, true, false, List, [], ◌∷◌, length, cond}
 use Rattle.rules.specs.Syntax.{Symbol}
 use Rattle.rules.specs.Cells.{read_cell}
+use Rattle.rules.specs.Decks.{symbol_words, clause_words, term_cells}
 use Rattle.rules.specs.WellFormed.{All, WfSymbol}
 use Rattle.rules.specs.Listing.{decimal}
-use Rattle.deck.specs.Kinds.{symbols_of, kind_of}
+use Rattle.text_rules.specs.TextWriter.{symbol_text}
+use Rattle.signature.specs.Symbols.{symbol_word}
+use Rattle.deck.specs.Kinds.{symbol_of, symbols_of, kind_of}
+use Rattle.deck.specs.Rows.{row_at}
 use Rattle.deck.specs.declared.kinds.Kind.{Kind}
 use Rattle.deck.specs.declared.kinds.Kind.TheVariants.{Variable, Function, Positive, Negative, Invalid}
+use Rattle.writing.specs.Writes.{symbols_in}
 
 -- Words of symbols with arities up to 15.
 abbrev pub KnownSymbols : List ℕ → Type 0
@@ -55,3 +60,11 @@ body_bytes (suc (suc n)) = 2
 
 abbrev pub clause_bytes : List Symbol → List ℕ → ℕ
 clause_bytes S cells = row_bytes S cells + body_bytes (literal_cells S cells)
+
+-- The bytes of clause i of a deck.
+abbrev pub clause_bytes_at : List ℕ → ℕ → ℕ
+clause_bytes_at words i = clause_bytes (symbols_in words) (row_at (term_cells words) (clause_words words) i)
+
+-- The bytes of the line of a deck's symbol n.
+abbrev pub symbol_bytes_at : List ℕ → ℕ → ℕ
+symbol_bytes_at words n = length (symbol_text (symbol_of (symbol_word (symbol_words words) n)) n [])

@@ -1,12 +1,13 @@
 -- What writing a deck as text promises (document 02, U1).
 use Rattle.std.specs.Prelude.{ℕ, ◌≡◌, List, [], ◌∷◌, ◌++◌, length, drop, Result, Ok, Err}
-use Rattle.rules.specs.Syntax.{Deck}
+use Rattle.rules.specs.Syntax.{Symbol, Deck}
 use Rattle.rules.specs.Refusals.{Checked, refused, accepted}
-use Rattle.rules.specs.Decks.{open_deck}
+use Rattle.rules.specs.Decks.{symbol_words, open_deck}
 use Rattle.rules.specs.Listing.{decimal}
 use Rattle.text_rules.specs.Text.{write_text}
 use Rattle.deck.specs.declared.Refusal.{Refusal}
 use Rattle.deck.specs.Answers.{refusal_for}
+use Rattle.deck.specs.Kinds.{symbols_of}
 
 -- What the call returns, in the rules' words; and the number of bytes that the rules say.
 abbrev pub result_of : Result ℕ Refusal → Checked ℕ
@@ -37,6 +38,10 @@ deck_of words = opened_as (open_deck words)
 
 abbrev pub Opens : List ℕ → Type 0
 Opens words = open_deck words ≡ accepted (deck_of words)
+
+-- The symbols of a deck's symbol words.
+abbrev pub symbols_in : List ℕ → List Symbol
+symbols_in words = symbols_of (symbol_words words)
 
 -- A declaration's line, after a key word and a space.
 abbrev pub line_text : List ℕ → ℕ → ℕ → List ℕ

@@ -2,21 +2,20 @@
 ghost use Rattle.text_rules.specs.TextWriter.{clauses_text};
 ghost use Rattle.listing.specs.Put.{Fits, Adds};
 ghost use Rattle.writing.specs.Literals.{ClauseFits, ClauseWritten};
-ghost use Rattle.writing.specs.Writes.{Opens, deck_of};
+ghost use Rattle.writing.specs.Writes.{deck_of};
 
 use crate::literals::{put_body, put_literal};
-use deck::parts;
+use deck::opened::Opened;
 use listing::output::Output;
 
-pub fn put_clauses(out: &mut Output, deck: &[u16])
-    requires opens { Opens deck.now }
-    requires room { Fits out.old (clauses_text (deck_of deck.now).clauses) }
-    ensures { Adds out.old (clauses_text (deck_of deck.now).clauses) out.new }
+pub fn put_clauses(out: &mut Output, deck: &Opened)
+    requires { Fits out.old (clauses_text (deck_of deck.now.words.now).clauses) }
+    ensures { Adds out.old (clauses_text (deck_of deck.now.words.now).clauses) out.new }
 {
-    let symbols = parts::symbols(deck);
-    let count = parts::clause_count(deck);
+    let symbols = deck.symbols();
+    let count = deck.clause_count();
     for i in 0..count {
-        put_clause(out, parts::clause(deck, i), symbols);
+        put_clause(out, deck.clause(i), symbols);
     }
 }
 

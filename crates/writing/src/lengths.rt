@@ -1,102 +1,96 @@
 // How long a deck's text is, before a byte of it is written. A clause's text is as long as the shares of its cells.
 ghost use Rattle.std.specs.Prelude.{sum_by, count_by, ◌+◌, ◌<◌, ◌≤◌, ◌≡◌, [], length};
 ghost use Rattle.rules.specs.Cells.{read_cell};
+ghost use Rattle.rules.specs.Decks.{symbol_words, clause_words};
 ghost use Rattle.rules.specs.Listing.{decimal};
-ghost use Rattle.text_rules.specs.TextWriter.{symbol_text, symbols_text, clauses_text, deck_text};
-ghost use Rattle.deck.specs.Kinds.{symbol_of, symbols_of, kind_of};
-ghost use Rattle.signature.specs.Symbols.{symbol_count, symbol_word};
-ghost use Rattle.writing.specs.Lengths.{KnownSymbols, bracket_bytes, cell_bytes, row_bytes, begins_literal, clause_bytes};
-ghost use Rattle.writing.specs.Writes.{Opens, deck_of};
+ghost use Rattle.text_rules.specs.TextWriter.{symbols_text, clauses_text, deck_text};
+ghost use Rattle.deck.specs.Kinds.{kind_of};
+ghost use Rattle.signature.specs.Symbols.{symbol_count};
+ghost use Rattle.writing.specs.Lengths.{bracket_bytes, cell_bytes, begins_literal, clause_bytes_at, symbol_bytes_at};
+ghost use Rattle.writing.specs.Writes.{deck_of, symbols_in};
 
+use crate::literals::NEGATED;
+use deck::kinds;
 use deck::kinds::Kind;
-use deck::{kinds, parts};
+use deck::opened::Opened;
 
-pub fn deck_length(deck: &[u16]) -> usize
-    requires { Opens deck.now }
-    ensures { result ≡ length (deck_text (deck_of deck.now)) }
+pub fn deck_length(deck: &Opened) -> usize
+    ensures { result ≡ length (deck_text (deck_of deck.now.words.now)) }
 {
-    symbols_length(parts::symbols(deck)) + clauses_length(deck)
+    symbols_length(deck) + clauses_length(deck)
 }
 
-fn symbols_length(symbols: &[u16]) -> usize
-    requires { length symbols.now ≤ 4096 }
-    ensures { (result ≡ length (symbols_text 0 (symbols_of symbols.now) [])) × (result ≤ 69632) }
+fn symbols_length(deck: &Opened) -> usize
+    ensures { (result ≡ length (symbols_text 0 (symbols_in deck.now.words.now) [])) × (result ≤ 69632) }
 {
-    let mut bytes = 0;
-    for n in 0..symbols.len() {
-        bytes += symbol_length(symbols, n);
-    }
-    bytes
+    (0..deck.symbols().len())
+        .map(|n| symbol_length(deck, n))
+        .sum()
 }
 
 // The line of symbol number n: seven bytes and two numbers.
-fn symbol_length(symbols: &[u16], n: usize) -> usize
-    requires { (n < symbol_count symbols.now) × (n < 65536) }
-    ensures { (result ≡ length (symbol_text (symbol_of (symbol_word symbols.now n)) n [])) × (result ≤ 17) }
+fn symbol_length(deck: &Opened, n: usize) -> usize
+    requires { n < symbol_count (symbol_words deck.now.words.now) }
+    ensures { (result ≡ symbol_bytes_at deck.now.words.now n) × (result ≤ 17) }
 {
-    7 + digits(n) + digits(signature::arity(symbols, n))
+    7 + digits(n) + digits(signature::arity(deck.symbols(), n))
 }
 
-fn clauses_length(deck: &[u16]) -> usize
-    requires { Opens deck.now }
-    ensures { (result ≡ length (clauses_text (deck_of deck.now).clauses)) × (result ≤ 134250496) }
+fn clauses_length(deck: &Opened) -> usize
+    ensures { (result ≡ length (clauses_text (deck_of deck.now.words.now).clauses)) × (result ≤ 134250496) }
 {
-    let symbols = parts::symbols(deck);
-    let count = parts::clause_count(deck);
-    let mut bytes = 0;
-    for i in 0..count {
-        bytes += clause_length(symbols, parts::clause(deck, i));
-    }
-    bytes
+    (0..deck.clause_count())
+        .map(|i| clause_length(deck, i))
+        .sum()
 }
 
 // The shares of a clause's cells, and two bytes more where it has a body.
-fn clause_length(symbols: &[u16], cells: &[u16]) -> usize
-    requires { KnownSymbols symbols.now × (length cells.now ≤ 256) }
-    ensures { (result ≡ clause_bytes (symbols_of symbols.now) cells.now) × (result ≤ 8194) }
+fn clause_length(deck: &Opened, i: usize) -> usize
+    requires { i < length (clause_words deck.now.words.now) }
+    ensures { (result ≡ clause_bytes_at deck.now.words.now i) × (result ≤ 8194) }
 {
-    let bytes = row_length(symbols, cells);
-    if literal_count(symbols, cells) < 2 {
+    let cells = deck.clause(i);
+    let bytes = row_length(deck, cells);
+    if literal_count(deck, cells) < 2 {
         return bytes;
     }
     bytes + 2
 }
 
 // The shares of cells together.
-fn row_length(symbols: &[u16], cells: &[u16]) -> usize
-    requires { KnownSymbols symbols.now × (length cells.now ≤ 256) }
-    ensures { result ≡ sum_by (λ c. cell_bytes (kind_of (read_cell (symbols_of symbols.now) c)) c) cells.now }
+fn row_length(deck: &Opened, cells: &[u16]) -> usize
+    requires { length cells.now ≤ 256 }
+    ensures { result ≡ sum_by (λ c. cell_bytes (kind_of (read_cell (symbols_in deck.now.words.now) c)) c) cells.now }
 {
-    cells.iter().map(|cell| cell_length(symbols, *cell)).sum()
+    cells.iter().map(|cell| cell_length(deck, *cell)).sum()
 }
 
-fn cell_length(symbols: &[u16], cell: u16) -> usize
-    requires { KnownSymbols symbols.now }
-    ensures { (result ≡ cell_bytes (kind_of (read_cell (symbols_of symbols.now) cell)) cell) × (result ≤ 32) }
+fn cell_length(deck: &Opened, cell: u16) -> usize
+    ensures { (result ≡ cell_bytes (kind_of (read_cell (symbols_in deck.now.words.now) cell)) cell) × (result ≤ 32) }
 {
     let c = usize::from(cell);
-    match kinds::read(symbols, cell) {
+    match kinds::read(deck.symbols(), cell) {
         Kind::Variable(v) => 1 + digits(v),
         Kind::Function(k) => 1 + digits(c) + brackets(k),
         Kind::Positive(k) => 3 + digits(c) + brackets(k),
-        Kind::Negative(k) => 4 + digits(c - 16384) + brackets(k),
+        Kind::Negative(k) => 4 + digits(usize::from(cell - NEGATED)) + brackets(k),
         Kind::Invalid => 0,
     }
 }
 
 // How many literals begin in the cells.
-fn literal_count(symbols: &[u16], cells: &[u16]) -> usize
-    ensures { result ≡ count_by (λ c. begins_literal (kind_of (read_cell (symbols_of symbols.now) c))) cells.now }
+fn literal_count(deck: &Opened, cells: &[u16]) -> usize
+    ensures { result ≡ count_by (λ c. begins_literal (kind_of (read_cell (symbols_in deck.now.words.now) c))) cells.now }
 {
-    cells.iter().filter(|cell| begins(symbols, **cell)).count()
+    cells.iter().filter(|cell| begins(deck, **cell)).count()
 }
 
 // Whether a literal begins with the cell.
-fn begins(symbols: &[u16], cell: u16) -> bool
-    ensures { result ≡ begins_literal (kind_of (read_cell (symbols_of symbols.now) cell)) }
+fn begins(deck: &Opened, cell: u16) -> bool
+    ensures { result ≡ begins_literal (kind_of (read_cell (symbols_in deck.now.words.now) cell)) }
 {
     matches!(
-        kinds::read(symbols, cell),
+        kinds::read(deck.symbols(), cell),
         Kind::Positive(_) | Kind::Negative(_)
     )
 }
@@ -116,5 +110,6 @@ fn digits(n: usize) -> usize
     requires { n < 100000 }
     ensures { (result ≡ length (decimal n [])) × (result ≤ 5) }
 {
+    // `as`, since std has no `From<u32>` for `usize`: a 32-bit number fits.
     n.max(1).ilog10() as usize + 1
 }

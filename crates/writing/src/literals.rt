@@ -1,10 +1,13 @@
-// Literals, written from the cells that they stand in.
+// Literals, written from the cells that they stand in. The symbols are passed and no `Printer`, since each clause would have to ask that its sign is `_`.
 ghost use Rattle.std.specs.Prelude.{[]};
 ghost use Rattle.text_rules.specs.TextWriter.{literals_text, body_text};
 ghost use Rattle.writing.specs.Literals.{LiteralFits, LiteralWritten, LiteralsFit, LiteralsWritten};
 
 use listing::output::Output;
-use listing::terms::{next, put_applied};
+use listing::terms::{Printer, next};
+
+// Added to a predicate's number where the literal is negated (a): a cell is a word of the deck's format. Here once more, since this crate does not stand on matching.
+pub const NEGATED: u16 = 16384;
 
 // Writes ` :- ` and the literals whose cells the row holds, where there are any.
 pub fn put_body(out: &mut Output, row: &[u16], symbols: &[u16])
@@ -21,7 +24,7 @@ pub fn put_body(out: &mut Output, row: &[u16], symbols: &[u16])
 }
 
 // Writes the literals whose cells the row holds, each after a comma and a space.
-// The cells move on by a literal's size, so the loop is no `for`.
+// The cells move on by a literal's size, so the loop is no `for`; why it is not one function with listing's `put_spaced` is told there.
 fn put_others(out: &mut Output, row: &[u16], symbols: &[u16])
     requires { LiteralsFit symbols.now row.now (λ ls. literals_text ls []) out.old }
     ensures { LiteralsWritten symbols.now row.now (λ ls. literals_text ls []) out.old out.new }
@@ -39,9 +42,13 @@ pub fn put_literal(out: &mut Output, cells: &mut &[u16], symbols: &[u16])
     ensures { LiteralWritten symbols.now cells.old.now out.old out.new cells.new.now }
 {
     let cell = next(cells);
-    if 16384 <= cell {
+    let terms = Printer {
+        symbols,
+        sign: b'_',
+    };
+    if NEGATED <= cell {
         out.put(b"~");
-        return put_applied(out, cells, cell - 16384, symbols, b'_');
+        return terms.put_applied(out, cells, cell - NEGATED);
     }
-    put_applied(out, cells, cell, symbols, b'_');
+    terms.put_applied(out, cells, cell);
 }

@@ -1,29 +1,31 @@
 // The declarations: `fn s0/0.`, `pr s4/1.`
-ghost use Rattle.std.specs.Prelude.{◌<◌, ◌≤◌, [], length};
+ghost use Rattle.std.specs.Prelude.{◌<◌, [], length};
+ghost use Rattle.rules.specs.Decks.{symbol_words};
 ghost use Rattle.text_rules.specs.TextWriter.{symbol_text, symbols_text};
-ghost use Rattle.deck.specs.Kinds.{symbol_of, symbols_of};
+ghost use Rattle.deck.specs.Kinds.{symbol_of};
 ghost use Rattle.signature.specs.Symbols.{symbol_count, symbol_word};
 ghost use Rattle.listing.specs.Put.{Fits, Adds};
-ghost use Rattle.writing.specs.Writes.{line_text};
+ghost use Rattle.writing.specs.Writes.{symbols_in, line_text};
 
+use deck::opened::Opened;
 use listing::output::Output;
 
 // Writes the declarations of all symbols.
-pub fn put_symbols(out: &mut Output, symbols: &[u16])
-    requires few_symbols { length symbols.now ≤ 4096 }
-    requires room { Fits out.old (symbols_text 0 (symbols_of symbols.now) []) }
-    ensures { Adds out.old (symbols_text 0 (symbols_of symbols.now) []) out.new }
+pub fn put_symbols(out: &mut Output, deck: &Opened)
+    requires { Fits out.old (symbols_text 0 (symbols_in deck.now.words.now) []) }
+    ensures { Adds out.old (symbols_text 0 (symbols_in deck.now.words.now) []) out.new }
 {
-    for n in 0..symbols.len() {
-        put_symbol(out, symbols, n);
+    for n in 0..deck.symbols().len() {
+        put_symbol(out, deck, n);
     }
 }
 
-fn put_symbol(out: &mut Output, symbols: &[u16], n: usize)
-    requires symbol { (n < symbol_count symbols.now) × (n < 65536) }
-    requires room { Fits out.old (symbol_text (symbol_of (symbol_word symbols.now n)) n []) }
-    ensures { Adds out.old (symbol_text (symbol_of (symbol_word symbols.now n)) n []) out.new }
+fn put_symbol(out: &mut Output, deck: &Opened, n: usize)
+    requires symbol { n < symbol_count (symbol_words deck.now.words.now) }
+    requires room { Fits out.old (symbol_text (symbol_of (symbol_word (symbol_words deck.now.words.now) n)) n []) }
+    ensures { Adds out.old (symbol_text (symbol_of (symbol_word (symbol_words deck.now.words.now) n)) n []) out.new }
 {
+    let symbols = deck.symbols();
     let arity = signature::arity(symbols, n);
     if signature::is_predicate(symbols, n) {
         return put_line(out, b"pr ", n, arity);

@@ -9,30 +9,39 @@ use Rattle.rules.specs.Resolution.{resolvents}
 use Rattle.derivation.specs.Derives.{sum_of, Deriving, WritesTo, Writes}
 use Rattle.derivation.specs.declared.Derived.{Derived}
 use Rattle.resolvents.specs.Selecting.{GoalCells}
+use Rattle.resolvents.specs.Deriving.{leading_symbol}
 use Rattle.derivation.proofs.ChildrenLaws.{kept-inside}
-use Rattle.derivation.proofs.DerivingLaws.{turned, numbers, tries, derives-oversized, derives-no-room, derives-unpaid, derives-words}
+use Rattle.derivation.proofs.DerivingLaws.{turned, numbers, tries, row-calls, derives-oversized, derives-no-room, derives-unpaid, derives-words}
 use Rattle.derivation.proofs.derive.Goals as goal
 use Rattle.derivation.proofs.derive.Goals.{After-put_children}
 
 -- The number of variables is that of the goal.
 fresh : (k : goal.After-put_children) (d : Deck) (g : Goal) (gs : List Goal) (before : List Literal) (p : ℕ) (ts : Terms) (after : List Literal)
     → let a = k.args in
-    Deriving a.clauses.now.deck.now a.store.now a.work.now.cells.now a.held a.call.len a.call.answers a.call.s a.call.e d g gs before p ts after
+    Deriving a.clauses.now.deck.words.now a.store.now a.work.now.cells.now a.held a.call.len a.call.answers a.call.s a.call.e d g gs before p ts after
     → k.variables-n.result ≡ top_goal g
 fresh k d g gs before p ts after x =
-    k.variables-n.ensures (symbol_words k.args.clauses.now.deck.now) k.args.call.answers d.symbols g
-    (subst (λ w. GoalCells (symbol_words k.args.clauses.now.deck.now) w k.args.call.answers d.symbols g) (sym k.goal.ensures) x.calls.goal)
+    k.variables-n.ensures (symbol_words k.args.clauses.now.deck.words.now) k.args.call.answers d.symbols g
+    (subst (λ w. GoalCells (symbol_words k.args.clauses.now.deck.words.now) w k.args.call.answers d.symbols g) (sym k.goal-cells.ensures) x.calls.goal)
+
+-- The first argument's symbol is that of the literal.
+leads : (k : goal.After-put_children) (d : Deck) (g : Goal) (gs : List Goal) (before : List Literal) (p : ℕ) (ts : Terms) (after : List Literal)
+    → let a = k.args in
+    Deriving a.clauses.now.deck.words.now a.store.now a.work.now.cells.now a.held a.call.len a.call.answers a.call.s a.call.e d g gs before p ts after
+    → k.first_symbol-first.result ≡ leading_symbol ts
+leads k d g gs before p ts after x =
+    k.first_symbol-first.ensures d.symbols g before p ts after (top_goal g) (row-calls x k.symbols.result.now k.goal-cells.result.now k.symbols.ensures k.goal-cells.ensures)
 
 -- What the loop's call leaves.
 writes : (k : goal.After-put_children) (r : Option Derived) → k.put_children.result ≡ r
     → (d : Deck) (g : Goal) (gs : List Goal) (before : List Literal) (p : ℕ) (ts : Terms) (after : List Literal)
     → let a = k.args in
-    Deriving a.clauses.now.deck.now a.store.now a.work.now.cells.now a.held a.call.len a.call.answers a.call.s a.call.e d g gs before p ts after
+    Deriving a.clauses.now.deck.words.now a.store.now a.work.now.cells.now a.held a.call.len a.call.answers a.call.s a.call.e d g gs before p ts after
     → Writes a.store.now (a.held - 2 - a.call.len) (resolvents d.clauses g before p ts after) (sum_of d g p ts) (a.left - 1) k.put_children.new.store r
 writes k r e d g gs before p ts after x =
     let a = k.args in
     subst (Writes a.store.now (a.held - 2 - a.call.len) (resolvents d.clauses g before p ts after) (sum_of d g p ts) (a.left - 1) k.put_children.new.store) e
-    (k.put_children.ensures.writes d g before p ts after (tries x k.variables-n.result (fresh k d g gs before p ts after x)))
+    (k.put_children.ensures.writes d g before p ts after (tries x k.variables-n.result k.first_symbol-first.result (fresh k d g gs before p ts after x) (leads k d g gs before p ts after x)))
 
 pub overflow_sub-base : goal.overflow_sub-base
 overflow_sub-base c = omega (arith, (numbers c.requires.some_deriving.is).low)
@@ -40,13 +49,28 @@ overflow_sub-base c = omega (arith, (numbers c.requires.some_deriving.is).low)
 pub overflow_sub-base-2 : goal.overflow_sub-base-2
 overflow_sub-base-2 c = omega (arith, (numbers c.requires.some_deriving.is).low)
 
+pub first_symbol-first-requires : goal.first_symbol-first-requires
+first_symbol-first-requires c =
+    let t = c.requires.some_deriving in
+    record {
+      n = top_goal t.first;
+      symbols = t.deck.symbols;
+      goal = t.first;
+      before = t.before;
+      predicate = t.predicate;
+      terms = t.terms;
+      after = t.after;
+      calls = row-calls t.is c.symbols.result.now c.goal-cells.result.now c.symbols.ensures c.goal-cells.ensures;
+    }
+
 pub put_children-requires : goal.put_children-requires
 put_children-requires c =
     let t = c.requires.some_deriving in
-    let ws = c.args.clauses.now.deck.now in
+    let ws = c.args.clauses.now.deck.words.now in
     let fresh : c.variables-n.result ≡ top_goal t.first =
     c.variables-n.ensures (symbol_words ws) c.args.call.answers t.deck.symbols t.first
-    (subst (λ w. GoalCells (symbol_words ws) w c.args.call.answers t.deck.symbols t.first) (sym c.goal.ensures) t.is.calls.goal) in
+    (subst (λ w. GoalCells (symbol_words ws) w c.args.call.answers t.deck.symbols t.first) (sym c.goal-cells.ensures) t.is.calls.goal) in
+    let row = row-calls t.is c.symbols.result.now c.goal-cells.result.now c.symbols.ensures c.goal-cells.ensures in
     record {
       some_tries = record {
         deck = t.deck;
@@ -55,7 +79,9 @@ put_children-requires c =
         predicate = t.predicate;
         terms = t.terms;
         after = t.after;
-        is = tries t.is c.variables-n.result fresh;
+        is =
+            tries t.is c.variables-n.result c.first_symbol-first.result fresh
+            (c.first_symbol-first.ensures t.deck.symbols t.first t.before t.predicate t.terms t.after (top_goal t.first) row);
       };
       base = omega (arith, (numbers t.is).low, (numbers t.is).inside);
     }
@@ -64,7 +90,7 @@ put_children-requires c =
 reaches : (k : goal.After-put_children) (r : Derived) (end : ℕ) → k.put_children.result ≡ Some r → r.held ≡ Some end
     → (d : Deck) (g : Goal) (gs : List Goal) (before : List Literal) (p : ℕ) (ts : Terms) (after : List Literal)
     → let a = k.args in
-    Deriving a.clauses.now.deck.now a.store.now a.work.now.cells.now a.held a.call.len a.call.answers a.call.s a.call.e d g gs before p ts after
+    Deriving a.clauses.now.deck.words.now a.store.now a.work.now.cells.now a.held a.call.len a.call.answers a.call.s a.call.e d g gs before p ts after
     → a.held - 2 - a.call.len ≤ end
 reaches k r end e q d g gs before p ts after x =
     let a = k.args in
@@ -83,7 +109,7 @@ back-fits k =
     (omega (arith, m, n.low), omega (arith, n.inside, k.put_children.auto.store), omega (arith, m, n.short), n.few)
 
 pub restore-requires : goal.restore-requires
-restore-requires c = rw c.goal-in_default.ensures (back-fits (goal.at.restore-requires c).After-put_children)
+restore-requires c = rw c.goal.ensures (back-fits (goal.at.restore-requires c).After-put_children)
 
 pub restore-requires-in_default-held : goal.restore-requires-in_default-held
 restore-requires-in_default-held c = rw c.goal-in_default-held.ensures (back-fits (goal.at.restore-requires-in_default-held c).After-put_children)
@@ -98,7 +124,7 @@ returns-in_default c =
     record {
       derives = λ d g gs before p ts after x.
           let w = writes k None c.in_default.is d g gs before p ts after x in
-          rw (c.restore.ensures, c.goal-in_default.ensures) (derives-unpaid x x₁.new.store x₁.new.work.cells.now w.1 x₁.ensures.cells_unchanged x₁.auto.store c.args.left c.requires.left w);
+          rw (c.restore.ensures, c.goal.ensures) (derives-unpaid x x₁.new.store x₁.new.work.cells.now w.1 x₁.ensures.cells_unchanged x₁.auto.store c.args.left c.requires.left w);
     }
 
 pub returns-in_default-held : goal.returns-in_default-held

@@ -20,18 +20,18 @@ use Rattle.derivation.proofs.put_children.Goals.{In-Some, After-try_clause}
 -- The clause that is given.
 clause : (k : goal.In-Some) (d : Deck) (g : Goal) (before : List Literal) (p : ℕ) (ts : Terms) (after : List Literal)
     → let a = k.args in
-    Tries a.clauses.now.deck.now a.work.now.cells.now a.call.len a.call.answers a.call.s a.call.e a.n d g before p ts after
+    Tries a.clauses.now.deck.words.now a.work.now.cells.now a.attempt d g before p ts after
     → Given k.loop-i.i-iterator k.next.new.self k.in-Some.i d p
 clause k d g before p ts after t =
     let h = k.loop-i.invariant in
-    given-clause k.loop-i.i-iterator k.next.new.self k.next.result k.in-Some.i d p k.next.ensures.steps k.in-Some.is (ap (λ c. open_deck c.deck.now) h.same_clauses ∙ t.opens)
+    given-clause k.loop-i.i-iterator k.next.new.self k.next.result k.in-Some.i d p k.next.ensures.steps k.in-Some.is (ap (λ c. open_deck c.deck.words.now) h.same_clauses ∙ t.opens)
     (h.predicate ∙ (literal-cell t.calls).1)
 
-pub offset_bounds-work-call : goal.offset_bounds-work-call
-offset_bounds-work-call c = let t = c.requires.some_tries.is.calls in omega (arith, (literal-cell t).0, t.inside)
+pub offset_bounds-work-attempt : goal.offset_bounds-work-attempt
+offset_bounds-work-attempt c = let t = c.requires.some_tries.is.calls in omega (arith, (literal-cell t).0, t.inside)
 
-pub bounds-work-call : goal.bounds-work-call
-bounds-work-call c = let t = c.requires.some_tries.is.calls in omega (arith, (literal-cell t).0, t.inside)
+pub bounds-work-attempt : goal.bounds-work-attempt
+bounds-work-attempt c = let t = c.requires.some_tries.is.calls in omega (arith, (literal-cell t).0, t.inside)
 
 pub about-i-items-requires : goal.about-i-items-requires
 about-i-items-requires c = let t = c.requires.some_tries.is in omega (arith, c.from.ensures, (literal-cell t.calls).1, literal-below t)
@@ -45,23 +45,23 @@ loop-i-init c =
       goal_cells = refl;
       same_clauses = ap (λ b. b.clauses) same ∙ c.about-i-items.ensures.clauses;
       predicate = ap (λ b. b.p) same ∙ c.about-i-items.ensures.predicate ∙ c.from.ensures;
-      counted = λ k e. let at : k ≡ a.base = cc in omega (arith, count-at-most (length (clause_words a.clauses.now.deck.now)) c.into_iter-i-iterator.result.ahead);
+      counted = λ k e. let at : k ≡ a.base = cc in omega (arith, count-at-most (length (clause_words a.clauses.now.deck.words.now)) c.into_iter-i-iterator.result.ahead);
       going = λ d g before p ts after t.
           let q : c.from.result ≡ p = c.from.ensures ∙ (literal-cell t.calls).1 in
           let first : NextAbout p d.clauses 0 c.into_iter-i-iterator.result.ahead =
           subst (λ b. NextAbout p d.clauses 0 b.ahead) (sym same) (subst (λ x. NextAbout x d.clauses 0 c.about-i-items.result.ahead) q (c.about-i-items.ensures.first d t.opens)) in
-          let by = resolvent a.n g.answers before ts after in
+          let by = resolvent a.attempt.n g.answers before ts after in
           let all = resolvents d.clauses g before p ts after in
-          going-past by a.n ts p d.clauses all (sum_of d g p ts) a.store.now a.base a.left first
-          (going-first by a.n ts p d.clauses all (sum_of d g p ts) a.store.now a.base a.left
-          (resolvents-by d.clauses g before p ts after a.n t.calls.fresh) (sum_by d g p ts a.n t.calls.fresh));
+          going-past by a.attempt.n ts p d.clauses all (sum_of d g p ts) a.store.now a.base a.left first
+          (going-first by a.attempt.n ts p d.clauses all (sum_of d g p ts) a.store.now a.base a.left
+          (resolvents-by d.clauses g before p ts after a.attempt.n t.calls.fresh) (sum_by d g p ts a.attempt.n t.calls.fresh));
     }
 
 -- What the call says of the clause, where the goal's cells are what they were.
 attempt : (k : goal.After-try_clause) (d : Deck) (g : Goal) (before : List Literal) (p : ℕ) (ts : Terms) (after : List Literal) (c : Clause)
     → let a = k.args in
-    Tries a.clauses.now.deck.now a.work.now.cells.now a.call.len a.call.answers a.call.s a.call.e a.n d g before p ts after → ClauseAt d.clauses k.in-Some.i c
-    → IsAttempt (resolvent a.n g.answers before ts after c) (equations_of a.n ts c) k.loop-i.rest k.try_clause.new.work.draft.child k.try_clause.result
+    Tries a.clauses.now.deck.words.now a.work.now.cells.now a.attempt d g before p ts after → ClauseAt d.clauses k.in-Some.i c
+    → IsAttempt (resolvent a.attempt.n g.answers before ts after c) (equations_of a.attempt.n ts c) k.loop-i.rest k.try_clause.new.work.draft.child k.try_clause.result
 attempt k d g before p ts after c t place =
     let h = k.loop-i.invariant in
     k.try_clause.ensures.attempt d g before p ts after c (tries-kept k.loop-i.work.cells.now h.goal_cells t) place
@@ -70,7 +70,7 @@ pub try_clause-requires : goal.try_clause-requires
 try_clause-requires c =
     let t = c.requires.some_tries in
     let h = c.loop-i.invariant in
-    let n = clause-count c.args.clauses.now.deck.now t.deck t.is.opens in
+    let n = clause-count c.args.clauses.now.deck.words.now t.deck t.is.opens in
     let k = (goal.at.try_clause-requires c).In-Some in
     record {
       some_tries = record {
@@ -98,11 +98,11 @@ returns-in_err-given c =
     record {
       writes = λ d g before p ts after t.
           let r = clause (goal.at.returns-in_err-given c).In-Some d g before p ts after t in
-          let by = resolvent a.n g.answers before ts after in
+          let by = resolvent a.attempt.n g.answers before ts after in
           let all = resolvents d.clauses g before p ts after in
-          let unpaid = going-unpaid by a.n ts p d.clauses all (sum_of d g p ts) a.store.now a.base a.left r.clause r.at r.is-about
-          (subst (Reaching by a.n ts p d.clauses all (sum_of d g p ts) a.store.now a.base a.left c.loop-i.store c.loop-i.held c.loop-i.rest) r.place (h.going d g before p ts after t))
-          (subst (IsAttempt (by r.clause) (equations_of a.n ts r.clause) c.loop-i.rest c.try_clause.new.work.draft.child) c.in_err-given.was (attempt k d g before p ts after r.clause t r.at)) in
+          let unpaid = going-unpaid by a.attempt.n ts p d.clauses all (sum_of d g p ts) a.store.now a.base a.left r.clause r.at r.is-about
+          (subst (Reaching by a.attempt.n ts p d.clauses all (sum_of d g p ts) a.store.now a.base a.left c.loop-i.store c.loop-i.held c.loop-i.rest) r.place (h.going d g before p ts after t))
+          (subst (IsAttempt (by r.clause) (equations_of a.attempt.n ts r.clause) c.loop-i.rest c.try_clause.new.work.draft.child) c.in_err-given.was (attempt k d g before p ts after r.clause t r.at)) in
           rw c.from_residual.ensures unpaid;
       cells_unchanged = c.try_clause.ensures.cells_unchanged ∙ h.goal_cells;
     }
@@ -111,17 +111,17 @@ returns-in_err-given c =
 far : (k : goal.After-try_clause) (e : ℕ) → k.loop-i.held ≡ Some e → e + 1024 < 18446744073709551616
 far k e q =
     let t = k.requires.some_tries in
-    let ws = k.args.clauses.now.deck.now in
+    let ws = k.args.clauses.now.deck.words.now in
     omega (arith, k.loop-i.invariant.counted e q, few-clauses ws t.deck t.is.opens, k.requires.base)
 
 -- What the clause gives, and what is left, where its unification was not broken off.
 gave : (k : goal.After-try_clause) (given : Resolved) (l : ℕ) → k.try_clause.result ≡ Some (given, l)
     → (d : Deck) (g : Goal) (before : List Literal) (p : ℕ) (ts : Terms) (after : List Literal) (c : Clause)
     → let a = k.args in
-    Tries a.clauses.now.deck.now a.work.now.cells.now a.call.len a.call.answers a.call.s a.call.e a.n d g before p ts after → ClauseAt d.clauses k.in-Some.i c
-    → (equations_of a.n ts c + l ≡ k.loop-i.rest) × IsResolvent (resolvent a.n g.answers before ts after c) k.try_clause.new.work.draft.child given
+    Tries a.clauses.now.deck.words.now a.work.now.cells.now a.attempt d g before p ts after → ClauseAt d.clauses k.in-Some.i c
+    → (equations_of a.attempt.n ts c + l ≡ k.loop-i.rest) × IsResolvent (resolvent a.attempt.n g.answers before ts after c) k.try_clause.new.work.draft.child given
 gave k given l e d g before p ts after c t place =
-    let n = k.args.n in
+    let n = k.args.attempt.n in
     subst (IsAttempt (resolvent n g.answers before ts after c) (equations_of n ts c) k.loop-i.rest k.try_clause.new.work.draft.child) e (attempt k d g before p ts after c t place)
 
 pub put_child-held-requires : goal.put_child-held-requires
@@ -129,7 +129,7 @@ put_child-held-requires c =
     let k = (goal.at.put_child-held-requires c).After-try_clause in
     let t = c.requires.some_tries in
     let r = clause (goal.at.put_child-held-requires c).In-Some t.deck t.goal t.before t.predicate t.terms t.after t.is in
-    given-fits (resolvent c.args.n t.goal.answers t.before t.terms t.after r.clause) c.try_clause.new.work.draft.child c.in_ok-given.given c.loop-i.held
+    given-fits (resolvent c.args.attempt.n t.goal.answers t.before t.terms t.after r.clause) c.try_clause.new.work.draft.child c.in_ok-given.given c.loop-i.held
     (gave k c.in_ok-given.given c.in_ok-given.l c.in_ok-given.was t.deck t.goal t.before t.predicate t.terms t.after r.clause t.is r.at).1
     (far k)
 
@@ -144,7 +144,7 @@ loop-i-preserved c =
     let given = c.in_ok-given.given in
     let rest = c.in_ok-given.l in
     let steps = c.next.ensures.steps in
-    let ws = a.clauses.now.deck.now in
+    let ws = a.clauses.now.deck.words.now in
     let n = length (clause_words ws) in
     let t₀ = c.requires.some_tries in
     let r₀ = clause some t₀.deck t₀.goal t₀.before t₀.predicate t₀.terms t₀.after t₀.is in
@@ -159,18 +159,18 @@ loop-i-preserved c =
       counted = λ e q.
           let left = count_from n c.next.new.self.ahead in
           let before = rw ahead at h.invariant.counted in
-          let most = placed-few h.store draft x.new.store x.result (resolvent a.n t₀.goal.answers t₀.before t₀.terms t₀.after r₀.clause) h.held given
+          let most = placed-few h.store draft x.new.store x.result (resolvent a.attempt.n t₀.goal.answers t₀.before t₀.terms t₀.after r₀.clause) h.held given
           (a.base + 1024 * n - 1024 * left) (gave k given rest c.in_ok-given.was t₀.deck t₀.goal t₀.before t₀.predicate t₀.terms t₀.after r₀.clause t₀.is r₀.at).1 x.ensures
           (λ e' q'. omega (arith, before e' q', fewer)) e q in
           omega (arith, most, count-at-most n c.next.new.self.ahead);
       going = λ d g before p ts after t.
           let r = clause some d g before p ts after t in
-          let by = resolvent a.n g.answers before ts after in
+          let by = resolvent a.attempt.n g.answers before ts after in
           let all = resolvents d.clauses g before p ts after in
           let v = gave k given rest c.in_ok-given.was d g before p ts after r.clause t r.at in
-          going-past by a.n ts p d.clauses all (sum_of d g p ts) a.store.now a.base a.left r.onward
-          (going_on by a.n ts p d.clauses all (sum_of d g p ts) a.store.now a.base a.left r.clause r.at r.is-about
-          (subst (Reaching by a.n ts p d.clauses all (sum_of d g p ts) a.store.now a.base a.left h.store h.held h.rest) r.place (h.invariant.going d g before p ts after t))
+          going-past by a.attempt.n ts p d.clauses all (sum_of d g p ts) a.store.now a.base a.left r.onward
+          (going_on by a.attempt.n ts p d.clauses all (sum_of d g p ts) a.store.now a.base a.left r.clause r.at r.is-about
+          (subst (Reaching by a.attempt.n ts p d.clauses all (sum_of d g p ts) a.store.now a.base a.left h.store h.held h.rest) r.place (h.invariant.going d g before p ts after t))
           draft given rest v.0 v.1 h.invariant.store_length x.new.store x.result x.ensures);
     }
 
@@ -181,7 +181,7 @@ returns c =
     let none : h.i-iterator.ahead ≡ None = sym c.next.ensures.steps.ahead ∙ c.in-None.is in
     record {
       writes = λ d g before p ts after t.
-          going-last (resolvent a.n g.answers before ts after) a.n ts p d.clauses (resolvents d.clauses g before p ts after) (sum_of d g p ts) a.store.now a.base a.left
+          going-last (resolvent a.attempt.n g.answers before ts after) a.attempt.n ts p d.clauses (resolvents d.clauses g before p ts after) (sum_of d g p ts) a.store.now a.base a.left
           (rw none at (h.invariant.going d g before p ts after t));
       cells_unchanged = h.invariant.goal_cells;
     }

@@ -1,21 +1,73 @@
--- `run`: the refusal of the checks, or the accepted run.
-use mathlib.Core.Path.{sym, ◌∙◌, ap}
+-- `run`: the refusal of the checks; or the first goal is held, and the evaluation from it is what the run gives.
+use mathlib.Core.Path.{◌≡◌, ◌∙◌, ap}
+use mathlib.Core.List.{[], ◌∷◌}
+use native.Mathlib.Omega.{arith}
 use lib.ListN.{length}
 use Rattle.std.proofs.lemmas.Result.{err_from_is_err_and}
+use Rattle.rules.specs.Refusals.{accepted}
+use Rattle.rules.specs.Decks.{symbol_words, open_deck}
+use Rattle.rules.specs.Goals.{first_goal}
 use Rattle.rules.specs.Run.{run_on}
-use Rattle.deck.specs.Answers.{number_of}
+use Rattle.top_level.specs.Top.{Stored, opening}
+use Rattle.top_level.proofs.StoredLaws.{stored-first}
 use Rattle.evaluation.specs.Results.{slices}
-use Rattle.evaluation.proofs.RunLaws.{ran-refused}
+use Rattle.evaluation.proofs.RunLaws.{Accepts, run-accepts, accepted-query, ran-refused, topped-as, gives-accepted}
 use Rattle.evaluation.proofs.run.Goals as goal
+use Rattle.evaluation.proofs.run.Goals.{In_ok-opened, After-first-held}
 
-pub accepted-requires : goal.accepted-requires
-accepted-requires c = let a = c.args in sym (c.refusal.ensures a.budget (length a.answers.now)) ∙ ap number_of c.in_ok-refusal.was
-
-pub returns-in_err-refusal : goal.returns-in_err-refusal
+pub returns-in_err-opened : goal.returns-in_err-opened
 unfolding run_on
-returns-in_err-refusal c =
+returns-in_err-opened c =
     let a = c.args in
     let p = err_from_is_err_and c.from_residual.result c.from_residual.ensures.1 in
     rw (p.1, p.2)
-    (ran-refused a.deck.now a.query.now a.budget (slices a.answers.now a.store.now a.scratch.now) c.in_err-refusal.field-0.0
-    (sym (ap number_of c.in_err-refusal.was) ∙ c.refusal.ensures a.budget (length a.answers.now)))
+    (ran-refused a.deck.now a.query.now a.budget (slices a.answers.now a.store.now a.scratch.now) c.in_err-opened.field-0.0
+    (c.in_err-opened.ensures.number a.budget (length a.answers.now)))
+
+-- The deck and the query that are accepted.
+given : (c : goal.In_ok-opened) → let a = c.args in Accepts a.deck.now a.query.now a.budget (length a.answers.now) (length a.store.now) (length a.scratch.now)
+given c =
+    let a = c.args in
+    run-accepts a.deck.now a.query.now a.budget (length a.answers.now) (length a.store.now) (length a.scratch.now) (c.in_ok-opened.ensures.number a.budget (length a.answers.now))
+
+opens : (c : goal.In_ok-opened) → open_deck c.in_ok-opened.opened.words.now ≡ accepted (given c).is.deck
+opens c = ap open_deck c.in_ok-opened.ensures.words ∙ (given c).is.opens
+
+pub first-held-requires-clause-query : goal.first-held-requires-clause-query
+first-held-requires-clause-query c =
+    let g = given (goal.at.first-held-requires-clause-query c).In_ok-opened in
+    record { symbol_words = symbol_words c.args.deck.now; symbols = g.is.deck.symbols; query = g.is.query; queries = accepted-query g.is }
+
+pub first-held-requires-clause-room : goal.first-held-requires-clause-room
+first-held-requires-clause-room c = (given (goal.at.first-held-requires-clause-room c).In_ok-opened).least
+
+-- The first goal is held, and nothing is parked.
+held : (c : goal.After-first-held) → let a = c.args in (g : Accepts a.deck.now a.query.now a.budget (length a.answers.now) (length a.store.now) (length a.scratch.now))
+    → Stored g.is.deck.symbols c.first-held.new.store 0 c.first-held.result (opening (first_goal g.is.query ∷ []) [])
+held c g = stored-first (c.first-held.ensures (symbol_words c.args.deck.now) g.is.deck.symbols g.is.query (accepted-query g.is))
+
+pub from_goals-requires-clause-opening : goal.from_goals-requires-clause-opening
+from_goals-requires-clause-opening c =
+    let k = goal.at.from_goals-requires-clause-opening c in
+    let g = given k.In_ok-opened in
+    record { deck = g.is.deck; goals = first_goal g.is.query ∷ []; parked_goals = []; opens = opens k.In_ok-opened; stored = held k.After-first-held g }
+
+pub from_goals-requires-clause-short_store : goal.from_goals-requires-clause-short_store
+from_goals-requires-clause-short_store c = omega (arith, (given (goal.at.from_goals-requires-clause-short_store c).In_ok-opened).most, c.first-held.auto.store)
+
+pub from_goals-requires-clause-room : goal.from_goals-requires-clause-room
+from_goals-requires-clause-room c = (given (goal.at.from_goals-requires-clause-room c).In_ok-opened).scratch
+
+pub returns : goal.returns
+unfolding run_on
+returns c =
+    let a = c.args in
+    let at = goal.at.returns c in
+    let g = given at.In_ok-opened in
+    let k = c.first-held in
+    let t = c.from_goals in
+    gives-accepted g.is.deck (first_goal g.is.query ∷ []) [] a.budget a.answers.now a.store.now a.scratch.now
+    t.new.answers t.new.store t.new.scratch t.result
+    (run_on a.deck.now a.query.now a.budget (slices a.answers.now a.store.now a.scratch.now)) (g.runs ∙ ap accepted g.is.evaluates)
+    (t.auto.store ∙ k.auto.store) t.auto.scratch
+    (topped-as k.auto.store (t.ensures g.is.deck (first_goal g.is.query ∷ []) [] (opens at.In_ok-opened) (held at.After-first-held g)))

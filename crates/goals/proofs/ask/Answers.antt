@@ -1,28 +1,18 @@
 use Prim.Native.Nat.{◌+◌, ◌-◌}
-use mathlib.Core.Path.{◌≡◌, refl}
 use native.Mathlib.Omega.{arith}
-use lib.ListN.{length, get_or, length-set}
-use Rattle.words.proofs.Sets.{put_sets}
-use lib.ListN.{length-reverse}
-use mathlib.Core.List.{reverse}
-use Rattle.goals.proofs.MirrorLaws.{changed-and-two-more}
+use lib.ListN.{length, get_or}
+use Rattle.goals.proofs.MirrorLaws.{first-of-mirrored}
 use Rattle.goals.proofs.ask.Goals as goal
 
-pub bounds-store-end-2 : goal.bounds-store-end-2
-bounds-store-end-2 c = simp length-set (omega arith)
-
-pub bounds-store-end-3 : goal.bounds-store-end-3
-bounds-store-end-3 c = simp length-set (omega arith)
-
-pub returns : goal.returns
-returns c =
+pub overflow_sub-store-2 : goal.overflow_sub-store-2
+overflow_sub-store-2 c =
     let a = c.args in
     let n = length a.literal.now in
-    record {
-      value = refl;
-      store_after =
-          let fits : n ≡ a.held + n - a.held = omega arith in
-          rw (c.mirror.ensures, ← fits, put_sets a.store.now (reverse a.literal.now) a.held n (omega arith) (length-reverse a.literal.now))
-          (changed-and-two-more a.store.now a.literal.now a.held (a.held + n + 2) n (get_or a.literal.now 0 0 - 16384) 0 (n + 2)
-          (omega arith) refl (omega arith));
-    }
+    omega (arith, (first-of-mirrored a.store.now a.literal.now a.held (a.held + (n + 2)) (n + 2) 0 0 c.restore.new.store (omega arith) (omega arith) (omega arith) c.restore.ensures).0)
+
+pub returns-clause-store_after : goal.returns-clause-store_after
+returns-clause-store_after c =
+    let a = c.args in
+    let n = length a.literal.now in
+    let at = first-of-mirrored a.store.now a.literal.now a.held (a.held + (n + 2)) (n + 2) 0 (get_or a.literal.now 0 0 - 16384) c.restore.new.store (omega arith) (omega arith) (omega arith) c.restore.ensures in
+    rw at.0 at.1

@@ -5,10 +5,11 @@
 -- `level`: each turn keeps that the evaluation comes to the same as from the start.
 -- `take_step`: the first goal is read off the end of the words held, its literal selected, and the step is that of the selected literal.
 use Prim.Native.Nat.{ℕ, ◌-◌, ◌≤◌, ◌<◌, suc}
-use mathlib.Core.Path.{◌≡◌, ap, refl, ◌∙◌}
-use mathlib.Core.List.{List, [], ◌∷◌}
+use mathlib.Core.Path.{◌≡◌, ap, sym, refl, ◌∙◌}
+use mathlib.Core.List.{List, [], ◌∷◌, ◌++◌}
 use native.Mathlib.Omega.{arith}
-use lib.ListN.{length, get_or}
+use lib.ListN.{length, get_or, drop, length-drop}
+use lib.Seq.{length-take-le}
 use borrow.Rule.Slice.PartMut.{mid_of}
 use Rattle.std.specs.Prelude.{Result, Ok}
 use Rattle.std.proofs.lemmas.Result.{err_from_is_err_and}
@@ -82,7 +83,7 @@ took :
     (t : ℕ) (c : goal.level-After-take_step t) →
     let a = c.args in
     let l = c.loop-held in
-    (r : Result Turn Halt) → c.take_step.result ≡ r → (d : Deck) → open_deck a.clauses.now.deck.now ≡ accepted d
+    (r : Result Turn Halt) → c.take_step.result ≡ r → (d : Deck) → open_deck a.clauses.now.deck.words.now ≡ accepted d
     → (g : Goal) (hs : List Goal) → Holding d.symbols l.store l.held (g ∷ hs)
     → Turned d a.below l.store l.held l.account g hs c.take_step.new.store r
 took t c r e d o g hs h = rw e at (c.take_step.ensures d g hs o h)
@@ -123,14 +124,14 @@ level-take_step-requires t c =
     let l = c.loop-held.invariant in
     let q = c.requires in (
       omega (arith, c.decreases),
-      (some_first (l.2 q.deck q.goals q.opens q.holding) c.loop-held-test.true c.args.clauses.now.deck.now q.opens, omega (arith, c.if-left-eq0.false, c.left.ensures)),
+      (some_first (l.2 q.deck q.goals q.opens q.holding) c.loop-held-test.true c.args.clauses.now.deck.words.now q.opens, omega (arith, c.if-left-eq0.false, c.left.ensures)),
     )
 
-pub level-returns-in_err-take_step : goal.level-returns-in_err-take_step
-level-returns-in_err-take_step t c =
+pub level-returns-in_err-turn : goal.level-returns-in_err-turn
+level-returns-in_err-turn t c =
     let p = err_from_is_err_and c.from_residual.result c.from_residual.ensures.1 in
     rw (p.1, p.2)
-    (λ d gs o h. goes-interrupted (c.loop-held.invariant.2 d gs o h) c.loop-held-test.true c.take_step.new.store _ (took t (goal.at.level-returns-in_err-take_step t c).After-take_step _ c.in_err-take_step.was d o))
+    (λ d gs o h. goes-interrupted (c.loop-held.invariant.2 d gs o h) c.loop-held-test.true c.take_step.new.store _ (took t (goal.at.level-returns-in_err-turn t c).After-take_step _ c.in_err-turn.was d o))
 
 pub level-pay_one-account-requires : goal.level-pay_one-account-requires
 level-pay_one-account-requires t c =
@@ -141,19 +142,19 @@ level-returns-in-Empty t c =
     let s = (goal.at.level-returns-in-Empty t c).After-take_step in
     λ d gs o h.
     rw c.pay_one-account.ensures
-    (goes-succeeds (c.loop-held.invariant.2 d gs o h) c.loop-held-test.true c.take_step.new.store (pays t s) (took t s (Ok Empty) (found c.in_ok-take_step.was c.in-Empty.is) d o))
+    (goes-succeeds (c.loop-held.invariant.2 d gs o h) c.loop-held-test.true c.take_step.new.store (pays t s) (took t s (Ok Empty) (found c.in_ok-turn.was c.in-Empty.is) d o))
 
 pub level-overflow_sub-held-in-Park : goal.level-overflow_sub-held-in-Park
 level-overflow_sub-held-in-Park t c =
-    omega (arith, parked-at t (goal.at.level-overflow_sub-held-in-Park t c).After-take_step _ _ (found c.in_ok-take_step.was c.in-Park.is), c.from-held.ensures)
+    omega (arith, parked-at t (goal.at.level-overflow_sub-held-in-Park t c).After-take_step _ _ (found c.in_ok-turn.was c.in-Park.is), c.from-held.ensures)
 
 pub level-loop-held-smaller-in-Park : goal.level-loop-held-smaller-in-Park
 level-loop-held-smaller-in-Park t c =
-    omega (arith, parked-at t (goal.at.level-loop-held-smaller-in-Park t c).After-take_step _ _ (found c.in_ok-take_step.was c.in-Park.is))
+    omega (arith, parked-at t (goal.at.level-loop-held-smaller-in-Park t c).After-take_step _ _ (found c.in_ok-turn.was c.in-Park.is))
 
 pub level-loop-held-preserved-in-Park : goal.level-loop-held-preserved-in-Park
 level-loop-held-preserved-in-Park t c =
-    let e = found c.in_ok-take_step.was c.in-Park.is in
+    let e = found c.in_ok-turn.was c.in-Park.is in
     let s = (goal.at.level-loop-held-preserved-in-Park t c).After-take_step in (
       c.take_step.auto.store ∙ c.loop-held.invariant.0,
       (parked-at t s _ _ e).3,
@@ -162,11 +163,11 @@ level-loop-held-preserved-in-Park t c =
 
 pub level-loop-held-smaller : goal.level-loop-held-smaller
 level-loop-held-smaller t c =
-    omega (arith, on-at t (goal.at.level-loop-held-smaller t c).After-take_step _ _ (found c.in_ok-take_step.was c.in-More.is))
+    omega (arith, on-at t (goal.at.level-loop-held-smaller t c).After-take_step _ _ (found c.in_ok-turn.was c.in-More.is))
 
 pub level-loop-held-preserved : goal.level-loop-held-preserved
 level-loop-held-preserved t c =
-    let e = found c.in_ok-take_step.was c.in-More.is in
+    let e = found c.in_ok-turn.was c.in-More.is in
     let s = (goal.at.level-loop-held-preserved t c).After-take_step in (
       c.take_step.auto.store ∙ c.loop-held.invariant.0,
       (on-at t s _ _ e).1,
@@ -254,23 +255,19 @@ negate-returns t c =
 read :
     (t : ℕ) (c : goal.take_step-After-select_literal-selected t) →
     let a = c.args in
-    Copied a.store.now a.held c.from-length.result c.from-answers.result c.copy_mirrored.new.to
-read t c =
-    let w = c.from-length in
-    let k = first-room c.requires.first.holding in
-    copied c.args.store.now c.args.work.now.cells.now c.copy_mirrored.new.to c.args.held w.result c.from-answers.result
-    w.ensures c.from-answers.ensures (omega (arith, w.ensures)) (omega arith) (omega (arith, w.ensures, c.args.work.now.room)) c.copy_mirrored.ensures
+    Copied a.store.now a.held c.from-length.result c.from-answers.result (c.mirror.new.to ++ drop (c.from-length.result - 2) a.work.now.cells.now)
+read t c = copied c.requires.first.holding _ _ _ _ c.from-length.ensures c.from-answers.ensures c.args.work.now.room c.mirror.ensures
 
 -- A literal is selected, whatever the goal.
 picked :
     (t : ℕ) (c : goal.take_step-After-select_literal-selected t) →
     let a = c.args in
-    (r : Selected) → c.select_literal-selected.result ≡ r → (d : Deck) (g : Goal) (gs : List Goal) → open_deck a.clauses.now.deck.now ≡ accepted d
+    (r : Selected) → c.select_literal-selected.result ≡ r → (d : Deck) (g : Goal) (gs : List Goal) → open_deck a.clauses.now.deck.words.now ≡ accepted d
     → Holding d.symbols a.store.now a.held (g ∷ gs) → Selects g (select g.literals) r
 picked t c r e d g gs o h =
     rw e at
     (c.select_literal-selected.ensures d.symbols g
-    (rw c.goal.ensures (goal-row c.args.clauses.now.deck.now (read t c) o h c.symbols.result.now (c.from-length.result - 2) c.symbols.ensures refl)))
+    (rw c.goal.ensures (goal-row c.args.clauses.now.deck.words.now (read t c) o h c.symbols.result.now (c.from-length.result - 2) c.symbols.ensures refl)))
 
 pub take_step-overflow_sub-held : goal.take_step-overflow_sub-held
 take_step-overflow_sub-held t c = omega (arith, first-room c.requires.first.holding)
@@ -291,28 +288,39 @@ pub take_step-returns-then-answers-len : goal.take_step-returns-then-answers-len
 take_step-returns-then-answers-len t c =
     λ d g gs o h. (answers-only g (omega (arith, c.if-answers-len.true, c.from-length.ensures, c.from-answers.ensures, first-length h, first-answers h, first-room h)), refl)
 
-pub take_step-overflow_sub-held-3 : goal.take_step-overflow_sub-held-3
-take_step-overflow_sub-held-3 t c = omega (arith, first-room c.requires.first.holding)
+pub take_step-overflow_sub-end : goal.take_step-overflow_sub-end
+take_step-overflow_sub-end t c = omega (arith, first-room c.requires.first.holding)
 
-pub take_step-copy_mirrored-requires : goal.take_step-copy_mirrored-requires
-take_step-copy_mirrored-requires t c =
+pub take_step-overflow_sub-end-2 : goal.take_step-overflow_sub-end-2
+take_step-overflow_sub-end-2 t c = omega (arith, first-room c.requires.first.holding, c.from-length.ensures)
+
+pub take_step-slice_bounds-mirror-end-2 : goal.take_step-slice_bounds-mirror-end-2
+take_step-slice_bounds-mirror-end-2 t c = omega (arith, first-room c.requires.first.holding, c.from-length.ensures, c.args.work.now.room)
+
+pub take_step-slice_bounds-mirror-end-3 : goal.take_step-slice_bounds-mirror-end-3
+take_step-slice_bounds-mirror-end-3 t c =
+    sym (length-take-le (c.from-length.result - 2) c.args.work.now.cells.now (omega (arith, first-room c.requires.first.holding, c.from-length.ensures, c.args.work.now.room)))
+
+pub take_step-mirror-requires : goal.take_step-mirror-requires
+take_step-mirror-requires t c =
     let k = first-room c.requires.first.holding in
-    (omega (arith, c.from-length.ensures), omega arith, omega (arith, c.from-length.ensures, c.args.work.now.room))
+    let w = c.from-length.ensures in
+    let e = c.args.held - 2 in
+    length-take-le (c.from-length.result - 2) c.args.work.now.cells.now (omega (arith, w, c.args.work.now.room))
+    ∙ sym (length-take-le (e - (e - (c.from-length.result - 2))) (drop (e - (c.from-length.result - 2)) c.args.store.now) (omega (arith, w, length-drop (e - (c.from-length.result - 2)) c.args.store.now)) ∙ omega (arith, w))
 
 pub take_step-goal-requires : goal.take_step-goal-requires
-take_step-goal-requires t c = omega (arith, first-room c.requires.first.holding, c.from-length.ensures, c.copy_mirrored.auto.to, c.args.work.now.room)
+take_step-goal-requires t c =
+    omega (arith, (copied c.requires.first.holding _ _ _ _ c.from-length.ensures c.from-answers.ensures c.args.work.now.room c.mirror.ensures).long)
 
 pub take_step-select_literal-selected-requires : goal.take_step-select_literal-selected-requires
 take_step-select_literal-selected-requires t c =
     let f = c.requires.first in
-    let w = c.from-length in
-    let k = first-room f.holding in
-    let read = copied c.args.store.now c.args.work.now.cells.now c.copy_mirrored.new.to c.args.held w.result c.from-answers.result
-    w.ensures c.from-answers.ensures (omega (arith, w.ensures)) (omega arith) (omega (arith, w.ensures, c.args.work.now.room)) c.copy_mirrored.ensures in
+    let read = copied f.holding _ _ _ _ c.from-length.ensures c.from-answers.ensures c.args.work.now.room c.mirror.ensures in
     record {
       symbols = f.deck.symbols;
       goal = f.first;
-      is = rw c.goal.ensures (goal-row c.args.clauses.now.deck.now read f.opens f.holding c.symbols.result.now (w.result - 2) c.symbols.ensures refl);
+      is = rw c.goal.ensures (goal-row c.args.clauses.now.deck.words.now read f.opens f.holding c.symbols.result.now (c.from-length.result - 2) c.symbols.ensures refl);
     }
 
 pub take_step-pay_one-requires : goal.take_step-pay_one-requires
@@ -332,7 +340,7 @@ take_step-derive-derived-requires t c =
         predicate = k.predicate;
         terms = k.terms;
         after = k.after;
-        is = to-derive c.args.clauses.now.deck.now (read t s) f.opens f.holding _ _ k;
+        is = to-derive c.args.clauses.now.deck.words.now (read t s) f.opens f.holding _ _ k;
       };
       left = omega (arith, c.left.ensures, c.requires.pays);
     }
@@ -343,7 +351,7 @@ take_step-expanded-requires t c =
     let s = (goal.at.take_step-expanded-requires t c).After-select_literal-selected in
     let k = is_positive f.first _ _ (picked t s _ c.in-Positive.is f.deck f.first f.goals f.opens f.holding) in
     derives-less f.deck.clauses f.first k.before k.after k.predicate k.terms k.selects _ _ _ _ _ _ _ c.derive-derived.result
-    (rw c.left.ensures at (c.derive-derived.ensures.derives f.deck f.first f.goals k.before k.predicate k.terms k.after (to-derive c.args.clauses.now.deck.now (read t s) f.opens f.holding _ _ k)))
+    (rw c.left.ensures at (c.derive-derived.ensures.derives f.deck f.first f.goals k.before k.predicate k.terms k.after (to-derive c.args.clauses.now.deck.words.now (read t s) f.opens f.holding _ _ k)))
 
 pub take_step-returns-in-Positive : goal.take_step-returns-in-Positive
 take_step-returns-in-Positive t c =
@@ -353,7 +361,7 @@ take_step-returns-in-Positive t c =
     let k = is_positive g _ _ (picked t s _ c.in-Positive.is d g gs o h) in
     rw c.expanded.ensures
     (turned-expanded d c.args.below c.args.account c.requires.pays h k.selects r.new.store r.result r.auto.store
-    (rw c.left.ensures at (r.ensures.derives d g gs k.before k.predicate k.terms k.after (to-derive c.args.clauses.now.deck.now (read t s) o h _ _ k))))
+    (rw c.left.ensures at (r.ensures.derives d g gs k.before k.predicate k.terms k.after (to-derive c.args.clauses.now.deck.words.now (read t s) o h _ _ k))))
 
 pub take_step-negate-requires : goal.take_step-negate-requires
 take_step-negate-requires t c =
@@ -370,7 +378,7 @@ take_step-negate-requires t c =
           predicate = k.predicate;
           terms = k.terms;
           after = k.after;
-          is = to-negate c.args.clauses.now.deck.now (read t s) f.opens f.holding _ _ k;
+          is = to-negate c.args.clauses.now.deck.words.now (read t s) f.opens f.holding _ _ k;
         },
         c.requires.pays,
       ),
@@ -388,4 +396,4 @@ take_step-returns-in-Negative t c =
     let s = (goal.at.take_step-returns-in-Negative t c).After-select_literal-selected in
     λ d g gs o h.
     let k = is_negative g _ _ (picked t s _ c.in-Negative.is d g gs o h) in
-    c.negate.ensures d g gs k.before k.predicate k.terms k.after (to-negate c.args.clauses.now.deck.now (read t s) o h _ _ k)
+    c.negate.ensures d g gs k.before k.predicate k.terms k.after (to-negate c.args.clauses.now.deck.words.now (read t s) o h _ _ k)

@@ -28,7 +28,7 @@ decreases-take_step l = 4 * l.below + 2
 abbrev pub invariant-level-loop-held : goal.invariant-level-loop-held
 invariant-level-loop-held l =
     (length l.store ≡ length l.initial.store) × Later l.initial.account l.account
-    × ((d : Deck) (gs : List Goal) → open_deck l.clauses.deck.now ≡ accepted d → Holding d.symbols l.initial.store l.start gs
+    × ((d : Deck) (gs : List Goal) → open_deck l.clauses.deck.words.now ≡ accepted d → Holding d.symbols l.initial.store l.start gs
     → Goes d l.below (length l.initial.store) gs l.initial.account l.store l.held l.account l.parked)
 
 abbrev pub decreases-level-loop-held : goal.decreases-level-loop-held

@@ -10,11 +10,11 @@ use Rattle.rules.specs.Decks.{clause_words, open_deck}
 use Rattle.loose.specs.Marks.{Below}
 use Rattle.loose.proofs.clauses_tight.Given as goal
 
-pub record Loop (deck marks : List ℕ) (count i : ℕ) : Type 0 where
-  pub counted : count ≡ length (clause_words deck)
-  pub inside : i ≤ count
-  pub below : Below (2 * i + 1) marks
+pub record Loop (deck marks : List ℕ) (stamp i : ℕ) : Type 0 where
+  pub inside : i ≤ length (clause_words deck)
+  pub stamped : stamp ≡ 2 * i + 1
+  pub below : Below stamp marks
   pub rest : (d : Deck) → open_deck deck ≡ accepted d → tight_clauses (drop i d.clauses) ≡ tight_clauses d.clauses
 
 abbrev pub invariant-loop-i : goal.invariant-loop-i
-invariant-loop-i l = Loop l.deck l.marks l.count l.i
+invariant-loop-i l = Loop l.deck.words.now l.marks l.stamp l.i

@@ -1,5 +1,5 @@
 -- The run's contract, on the program's buffers, gives what is printed.
-use Rattle.std.proofs.Common.{rules, ◌≡◌, ℕ, List, length, refl, sym, subst, arith}
+use Rattle.std.proofs.Common.{rules, ◌≡◌, ℕ, List, length, ap, sym, subst, arith}
 use Rattle.std.proofs.lemmas.Result.{err_from_is_err_and}
 use Rattle.rules.specs.Refusals.{accepted}
 use Rattle.rules.specs.Decks.{symbol_words}
@@ -7,9 +7,10 @@ use Rattle.rules.specs.Evaluation.{Outcome}
 use Rattle.report.specs.Reports.{report_of}
 use Rattle.listing.specs.Shown.{Shown}
 use Rattle.listing.proofs.RunLaws.{run-shown}
+use Rattle.listing.proofs.PutLaws.{put_at_start}
 use Rattle.listing.proofs.PrintedLaws.{put-printed}
 use Rattle.program.specs.Runs.{words_run}
-use Rattle.program.proofs.PartLaws.{run-refused, run-done, header-fits}
+use Rattle.program.proofs.PartLaws.{zeros-buffers, run-refused, run-done, header-fits}
 use Rattle.program.proofs.listed.Goals as goal
 use Rattle.program.proofs.listed.Goals.{In_ok-report}
 
@@ -21,7 +22,7 @@ shown :
 shown c =
     let a = c.args in
     let report = c.in_ok-report.report in
-    let t = run-done a.deck.now a.query.now _ _ (record { answers = refl; store = refl; scratch = refl }) (report_of report) c.in_ok-report.ensures in (
+    let t = run-done a.deck.now a.query.now _ _ (zeros-buffers c.new-lists.ensures.answers c.new-lists.ensures.store c.new-lists.ensures.scratch) (report_of report) c.in_ok-report.ensures in (
       t.0,
       t.1,
       subst (λ (list : List ℕ). Shown t.0 report list (symbol_words a.deck.now)) (sym t.3)
@@ -32,21 +33,34 @@ pub returns-in_err-report : goal.returns-in_err-report
 returns-in_err-report c =
     let a = c.args in
     let p = err_from_is_err_and c.from_residual.result c.from_residual.ensures.1 in
-    rw (p.1, p.2) (run-refused a.deck.now a.query.now _ _ (record { answers = refl; store = refl; scratch = refl }) _ c.in_err-report.ensures, search rules)
+    rw (p.1, p.2) (run-refused a.deck.now a.query.now _ _ (zeros-buffers c.new-lists.ensures.answers c.new-lists.ensures.store c.new-lists.ensures.scratch) _ c.in_err-report.ensures, search rules)
 
 pub symbols-symbols-requires : goal.symbols-symbols-requires
 symbols-symbols-requires c =
     let s = shown (goal.at.symbols-symbols-requires c).In_ok-report in
     header-fits c.args.deck.now c.args.query.now s.0 s.1
 
+pub put_listing-requires-clause-room : goal.put_listing-requires-clause-room
+put_listing-requires-clause-room c =
+    let o = c.new-out.ensures in
+    (omega (arith, c.run.auto.answers), omega (arith, o.start, ap length o.bytes, c.told-out, c.run.auto.answers))
+
 pub put_listing-requires-clause-shown : goal.put_listing-requires-clause-shown
 put_listing-requires-clause-shown c =
     let s = shown (goal.at.put_listing-requires-clause-shown c).In_ok-report in
     (s.0, rw c.symbols-symbols.ensures s.2)
 
+pub shape_of-out : goal.shape_of-out
+shape_of-out c =
+    let s = shown (goal.at.shape_of-out c).In_ok-report in
+    let a = c.put_listing.ensures.adds s.0 (rw c.symbols-symbols.ensures s.2) in
+    search (rules, c.new-out.ensures.same_reference, a.same_reference)
+
 pub returns : goal.returns
 returns c =
     let s = shown (goal.at.returns c).In_ok-report in
-    let listable : Shown s.0 c.in_ok-report.report c.run.new.answers c.symbols-symbols.result.now = rw c.symbols-symbols.ensures s.2 in
-    let put = c.put_listing.ensures.put s.0 listable in
-    rw s.1 (put-printed put (omega (arith, put.place, c.put_listing.ensures.short, c.told-out, c.run.auto.answers)))
+    let o = c.new-out.ensures in
+    let a = c.put_listing.ensures.adds s.0 (rw c.symbols-symbols.ensures s.2) in
+    rw s.1
+    (put-printed (put_at_start o.bytes o.start a (search rules))
+    (omega (arith, a.put.place, c.put_listing.ensures.short, o.start, c.told-out, c.run.auto.answers)))

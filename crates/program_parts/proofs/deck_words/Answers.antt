@@ -1,33 +1,31 @@
--- The words stand at the start of those lent.
-use Rattle.std.proofs.Common.{ℕ, List, Bool, Option, Some, Bor, refl, ◌≡◌, ◌≤◌, length, take, arith, ap, sym, ◌∙◌}
+-- The file's test is the rules', and its words are read.
+use Rattle.std.proofs.Common.{rules, ◌≡◌, ℕ, List, Bool, Bor, Some, true, ap, sym, ◌∙◌, arith}
 use Rattle.std.proofs.Math.Option.{some}
-use Rattle.listing.specs.Printed.{file_of, deck_fits}
+use Rattle.std.proofs.lemmas.Result.{err_from_is_err_and}
 use Rattle.rules.specs.Refusals.{accepted}
-use Rattle.rules.specs.Program.{words_from}
-use Rattle.listing.proofs.PutLaws.{put-length}
-use Rattle.listing.proofs.PrintedLaws.{file-small, words-read}
-use Rattle.program_parts.proofs.FileLaws.{deck_file-missing, deck_file-unfit, deck_file-fit}
+use Rattle.listing.specs.Printed.{deck_fits}
+use Rattle.listing.proofs.PrintedLaws.{file-small}
+use Rattle.program_parts.proofs.FilterLaws.{filter-none, filter-some, none-err}
+use Rattle.program_parts.proofs.FileLaws.{deck_file-refused, deck_file-fit}
 use Rattle.program_parts.proofs.deck_words.Goals as goal
-use Rattle.program_parts.proofs.deck_words.Goals.{After-read_words-n}
+use Rattle.program_parts.proofs.deck_words.Goals.{In_ok-bytes}
 
--- The test, of a file that is there.
-fits : {file : Option (Bor (List ℕ))} {bytes : Bor (List ℕ)} {r b : Bool} → file ≡ Some bytes → r ≡ deck_fits (file_of file) → r ≡ b → deck_fits (some bytes.now) ≡ b
-fits is e f = rw (← f, e, is) refl
+abbrev fits : Bor (List ℕ) → Bool
+fits bytes = deck_fits (some bytes.now)
 
-read :
-    (c : After-read_words-n)
-    → (c.read_words-n.result ≤ length c.read_words-n.new.words) × (take c.read_words-n.result c.read_words-n.new.words ≡ words_from c.in-Some.bytes.now)
-read c = words-read c.in-Some.bytes.now c.read_words-n.ensures (omega (arith, file-small c.in-Some.bytes.now (fits c.in-Some.is c.deck_fits.ensures c.if-not-deck_fits.false)))
+kept : (c : In_ok-bytes) → (c.args.file ≡ Some c.in_ok-bytes.bytes) × (fits c.in_ok-bytes.bytes ≡ true)
+kept c = filter-some fits (λ x b g. search rules) _ _ c.filter.ensures c.in_ok-bytes.bytes c.in_ok-bytes.ensures.ok_part
 
-pub returns-in_default : goal.returns-in_default
-returns-in_default c = rw c.in_default.is deck_file-missing
+pub returns-in_err-bytes : goal.returns-in_err-bytes
+returns-in_err-bytes c =
+    let p = err_from_is_err_and c.from_residual.result c.from_residual.ensures.1 in
+    let n = c.in_err-bytes.ensures.ok_part in
+    rw (p.1, p.2, none-err _ _ _ n c.in_err-bytes.ensures.value) (deck_file-refused _ (filter-none fits (λ x b g. search rules) _ _ c.filter.ensures n))
 
-pub returns-then-not-deck_fits : goal.returns-then-not-deck_fits
-returns-then-not-deck_fits c = rw c.in-Some.is (deck_file-unfit c.in-Some.bytes.now (fits c.in-Some.is c.deck_fits.ensures c.if-not-deck_fits.true))
-
-pub shared_ref_as_front-result : goal.shared_ref_as_front-result
-shared_ref_as_front-result c = let z = (goal.at.shared_ref_as_front-result c).After-read_words-n in omega (arith, (read z).0, put-length z.read_words-n.ensures, z.told-words, z.fits-words)
+pub words_of-requires : goal.words_of-requires
+words_of-requires c = let k = kept (goal.at.words_of-requires c).In_ok-bytes in omega (arith, file-small c.in_ok-bytes.bytes.now k.1, c.told-words)
 
 pub returns : goal.returns
 returns c =
-    rw c.in-Some.is (deck_file-fit c.in-Some.bytes.now (fits c.in-Some.is c.deck_fits.ensures c.if-not-deck_fits.false) ∙ ap accepted (sym (read (goal.at.returns c).After-read_words-n).1))
+    let k = kept (goal.at.returns c).In_ok-bytes in
+    rw k.0 (deck_file-fit c.in_ok-bytes.bytes.now k.1 ∙ ap accepted (sym c.words_of.ensures))

@@ -7,4 +7,5 @@ use Rattle.stored.proofs.deck_goals.Goals as goal
 pub returns : goal.returns
 returns c d e =
     let a = c.args in
-    subst (λ S. OpenFound S a.store.now a.pending a.parked a.terms c.open_goals.result) (deck-symbols a.deck.now c.symbols.result.now d e c.symbols.ensures) c.open_goals.ensures
+    let n = a.counts in
+    subst (λ S. OpenFound S a.store.now n.pending n.parked n.terms c.open_goals.result) (deck-symbols a.deck.now.words.now c.symbols.result.now d e c.symbols.ensures) c.open_goals.ensures

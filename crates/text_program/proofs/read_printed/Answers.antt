@@ -1,11 +1,8 @@
 -- What reading the text comes to is printed.
 use Rattle.std.proofs.Common.{rules, ◌≡◌, ◌≤◌, length, take, refl, sym, arith, length-take-le}
-use Rattle.rules.specs.Refusals.{no_room}
 use Rattle.rules.specs.Program.{bytes_from}
 use Rattle.text_rules.specs.TextProgram.{place_line, read_program}
-use Rattle.deck.specs.Answers.{refusal_for}
-use Rattle.deck.proofs.RefusalLaws.{number_small}
-use Rattle.listing.proofs.PrintedLaws.{put-printed, line-printed}
+use Rattle.listing.proofs.PrintedLaws.{put-printed}
 use Rattle.listing.proofs.ByteLaws.{bytes-length}
 use Rattle.text_program.proofs.OutputLaws.{line-length}
 use Rattle.text_program.proofs.ReadLaws.{read_program-long, read_program-place, place-small, read_program-refusal, words-stand}
@@ -32,7 +29,7 @@ placed c =
 
 pub returns-then-text-gt262144 : goal.returns-then-text-gt262144
 returns-then-text-gt262144 c =
-    rw (read_program-long c.args.text.now c.if-text-gt262144.true) (line-printed no_room (omega arith) (c.put_refusal.ensures no_room (sym c.from.ensures)) (search rules))
+    rw (read_program-long c.args.text.now c.if-text-gt262144.true) c.put_line.ensures
 
 pub slice_bounds-words-end : goal.slice_bounds-words-end
 slice_bounds-words-end c = (stands (goal.at.slice_bounds-words-end c).In-Ok).0
@@ -55,6 +52,5 @@ returns-in-Err-Unreadable c =
 
 pub returns-in-Err-Refused : goal.returns-in-Err-Refused
 returns-in-Err-Refused c =
-    let n = refusal_for c.in-Err-Refused.why in
     rw (read_program-refusal c.args.text.now _ c.read_text.new.deck refl c.if-text-gt262144.false c.in-Err-Refused.why (rw c.in-Err-Refused.field-0-is at c.in-Err-Refused.ensures))
-    (line-printed n (omega (arith, number_small n)) (c.put_refusal-in-Err-Refused.ensures n (sym (rw c.in-Err-Refused.why-is at c.from-in-Err-Refused.ensures))) (search rules))
+    (rw c.in-Err-Refused.why-is at c.put_line-in-Err-Refused.ensures)

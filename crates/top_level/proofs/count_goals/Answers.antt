@@ -14,8 +14,8 @@ use Rattle.top_level.proofs.count_goals.Goals.{After-from}
 next : (c : goal.After-from) → let l = c.loop-rest in (S : List Symbol) (ms : List Marked) → Written S c.args.words.now ms → Further S l.rest.now l.n c.from.result ms
 next c S ms w = passed-more _ (c.loop-rest.invariant.1 S ms w) c.in-len1-up.len_at_least c.from.ensures
 
-known : (c : goal.After-from) → let l = c.loop-rest in Further c.requires.written.symbols l.rest.now l.n c.from.result c.requires.written.goals
-known c = next c c.requires.written.symbols c.requires.written.goals c.requires.written.written
+known : (c : goal.After-from) → let l = c.loop-rest in Further c.requires.symbols l.rest.now l.n c.from.result c.requires.goals
+known c = next c c.requires.symbols c.requires.goals c.requires.written
 
 pub loop-rest-init : goal.loop-rest-init
 loop-rest-init c = (omega arith, λ S ms w. passed_none w)
@@ -39,5 +39,5 @@ loop-rest-preserved c =
     rw (part-all r c.from.result k.inside)
     (omega (arith, c.loop-rest.invariant.0, length-drop c.from.result r, k.least, k.inside), λ S ms w. (next (goal.at.loop-rest-preserved c).After-from S ms w).passed)
 
-pub returns : goal.returns
-returns c = λ S ms w. passed-all (c.loop-rest.invariant.1 S ms w) (omega (arith, c.in_default.len_below))
+pub returns-clause-count : goal.returns-clause-count
+returns-clause-count c = λ S ms w. passed-all (c.loop-rest.invariant.1 S ms w) (omega (arith, c.in_default.len_below))

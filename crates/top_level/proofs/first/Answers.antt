@@ -1,14 +1,16 @@
 -- `first`: the goal's words are written in order and then reversed.
-use Prim.Native.Nat.{ℕ, ◌+◌, ◌≤◌}
-use mathlib.Core.Path.{◌≡◌, refl, ◌∙◌, ap}
+use Prim.Native.Nat.{ℕ, ◌+◌, ◌-◌, ◌≤◌}
+use mathlib.Core.Path.{◌≡◌, refl, sym, ◌∙◌, ap}
 use mathlib.Core.List.{List}
 use native.Mathlib.Omega.{arith}
-use lib.ListN.{length, take, set, length-set}
-use lib.Seq.{sets, length-sets}
-use Rattle.words.proofs.StoreLaws.{rev}
+use lib.ListN.{length, set, length-set}
+use lib.Seq.{sets, length-sets, length-take-le}
+use borrow.Rule.Slice.PartMut.{put_mid}
+use Rattle.words.proofs.Reverse.{rev, front_reversed}
+use Rattle.words.proofs.Sets.{put_sets}
 use Rattle.top_level.proofs.FirstLaws.{numbers, numbers_more, query-cells, first_short, first-held}
 use Rattle.top_level.proofs.first.Goals as goal
-use Rattle.top_level.proofs.first.Goals.{After-variables-n, At-loop-i}
+use Rattle.top_level.proofs.first.Goals.{After-variables-n, At-loop-i, After-copy_from_slice}
 
 -- Of the query that is known to be there.
 short : (c : goal.After-variables-n) → 2 + c.variables-n.result + length c.args.query.now ≤ 1024
@@ -55,16 +57,34 @@ loop-i-preserved c =
 pub overflow_add-n : goal.overflow_add-n
 overflow_add-n c = omega (arith, short (goal.at.overflow_add-n c).After-variables-n)
 
-pub copy-requires : goal.copy-requires
-copy-requires c = (omega arith, omega (arith, short (goal.at.copy-requires c).After-variables-n, same (goal.at.copy-requires c).At-loop-i))
+pub offset_bounds-store-n : goal.offset_bounds-store-n
+offset_bounds-store-n c = omega (arith, short (goal.at.offset_bounds-store-n c).After-variables-n)
 
-pub reverse_range-requires : goal.reverse_range-requires
-reverse_range-requires c =
-    (omega arith, omega (arith, short (goal.at.reverse_range-requires c).After-variables-n, same (goal.at.reverse_range-requires c).At-loop-i, c.copy.auto.to))
+pub slice_bounds-copy_from_slice-end : goal.slice_bounds-copy_from_slice-end
+slice_bounds-copy_from_slice-end c = omega (arith, short (goal.at.slice_bounds-copy_from_slice-end c).After-variables-n, same (goal.at.slice_bounds-copy_from_slice-end c).At-loop-i)
 
-pub shape_of-store : goal.shape_of-store
-shape_of-store c =
-    c.reverse_range.auto.s ∙ c.copy.auto.to ∙ same (goal.at.shape_of-store c).At-loop-i
+-- The query is copied behind the variables.
+copied : (c : goal.After-copy_from_slice) →
+    let n = c.variables-n.result in
+    let held = 2 + n + length c.args.query.now in
+    held ≤ length c.loop-i.store
+    → put_mid (2 + n) (held - (2 + n)) c.loop-i.store c.copy_from_slice.new.self ≡ sets c.loop-i.store (2 + n) c.args.query.now
+copied c h =
+    let n = c.variables-n.result in
+    let held = 2 + n + length c.args.query.now in
+    rw c.copy_from_slice.ensures.after (put_sets c.loop-i.store c.args.query.now (2 + n) (held - (2 + n)) (omega arith) (omega arith))
+
+pub slice_bounds-reverse-end : goal.slice_bounds-reverse-end
+slice_bounds-reverse-end c =
+    let at = goal.at.slice_bounds-reverse-end c in
+    let h : 2 + c.variables-n.result + length c.args.query.now ≤ length c.loop-i.store = omega (arith, short at.After-variables-n, same at.At-loop-i) in
+    omega (arith, h, ap length (copied at.After-copy_from_slice h), length-sets c.loop-i.store (2 + c.variables-n.result) c.args.query.now)
+
+pub slice_bounds-reverse-end-2 : goal.slice_bounds-reverse-end-2
+slice_bounds-reverse-end-2 c =
+    let at = goal.at.slice_bounds-reverse-end-2 c in
+    let h : 2 + c.variables-n.result + length c.args.query.now ≤ length c.loop-i.store = omega (arith, short at.After-variables-n, same at.At-loop-i) in
+    sym (length-take-le _ _ (omega (arith, h, ap length (copied at.After-copy_from_slice h), length-sets c.loop-i.store (2 + c.variables-n.result) c.args.query.now)))
 
 pub returns : goal.returns
 returns c =
@@ -72,10 +92,12 @@ returns c =
     let s = c.args.store.now in
     let words = c.args.query.now in
     let n = c.variables-n.result in
+    let held = 2 + n + length words in
     let l = c.loop-i in
     let all : l.i ≡ n = omega (arith, c.loop-i-test.false) in
-    first-held h n (2 + n + length words) (c.variables-n.ensures ar 0 S _ (query-cells h)) refl s c.reverse_range.new.s c.requires.room
-    (c.reverse_range.ensures
-    ∙ ap (rev 0 (2 + n + length words))
-    (c.copy.ensures
-    ∙ ap (λ (r : List ℕ). sets r (2 + n) (take (length words) words)) (l.invariant ∙ ap (λ (k : ℕ). sets (set (set s 0 (2 + n + length words)) 1 n) 2 (numbers k)) all)))
+    let at = goal.at.returns c in
+    first-held h n held (c.variables-n.ensures ar 0 S _ (query-cells h)) refl s _ c.requires.room
+    (front_reversed held _ c.reverse.new.self c.reverse.ensures.after
+    ∙ ap (rev 0 held)
+    (copied at.After-copy_from_slice (omega (arith, short at.After-variables-n, same at.At-loop-i))
+    ∙ ap (λ (r : List ℕ). sets r (2 + n) words) (l.invariant ∙ ap (λ (k : ℕ). sets (set (set s 0 held) 1 n) 2 (numbers k)) all)))

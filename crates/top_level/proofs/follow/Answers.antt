@@ -18,19 +18,19 @@ waits : (c : goal.In-Park) → let a = c.args in (x : Started) → Stepped x a.a
     → Waits x a.answers.now a.store.now a.at c.in-Park.mark c.in-Park.account
 waits c x h = rw (ok-kept _ c.args.taken c.map_err.result _ c.map_err.ensures.cases (c.in_ok-map_err.was ∙ ap Ok c.in-Park.is)) at h
 
-known : (c : goal.In-Park) → let a = c.args in Waits c.requires.stepped.started a.answers.now a.store.now a.at c.in-Park.mark c.in-Park.account
-known c = waits c c.requires.stepped.started c.requires.stepped.is
+known : (c : goal.In-Park) → let a = c.args in Waits c.requires.started a.answers.now a.store.now a.at c.in-Park.mark c.in-Park.account
+known c = waits c c.requires.started c.requires.is
 
 pub park-n-requires-clause-pending : goal.park-n-requires-clause-pending
 park-n-requires-clause-pending c = waits-held (known (goal.at.park-n-requires-clause-pending c).In-Park)
 
-pub overflow_add-result : goal.overflow_add-result
-overflow_add-result c =
-    let w = known (goal.at.overflow_add-result c).In-Park in
-    omega (arith, parks-within w _ _ c.park-n.ensures, stored-inside w.goes.stored, c.requires.short_store)
+pub overflow_add-parts : goal.overflow_add-parts
+overflow_add-parts c =
+    let w = known (goal.at.overflow_add-parts c).In-Park in
+    omega (arith, parks-within w _ _ c.park-n.ensures, stored-inside w.goes.stored)
 
-pub overflow_sub-result : goal.overflow_sub-result
-overflow_sub-result c = parks-within (known (goal.at.overflow_sub-result c).In-Park) _ _ c.park-n.ensures
+pub overflow_sub-parts : goal.overflow_sub-parts
+overflow_sub-parts c = parks-within (known (goal.at.overflow_sub-parts c).In-Park) _ _ c.park-n.ensures
 
 pub returns-in-Park : goal.returns-in-Park
 returns-in-Park c = λ s h. let w = waits (goal.at.returns-in-Park c).In-Park s h in (w.less, goes-parked w _ _ c.park-n.ensures c.park-n.auto.store)

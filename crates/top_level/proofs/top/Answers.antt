@@ -17,12 +17,12 @@ known : (c : goal.At-loop-next) → let a = c.args in let p = c.requires.opening
 known c = let p = c.requires.opening in c.loop-next.invariant p.deck p.goals p.parked_goals p.opens p.stored
 
 -- IT GOES ON
-further : (c : goal.In-Ok) (d : Deck) (gs : List Goal) (ms : List Marked) → let a = c.args in open_deck a.clauses.now.deck.now ≡ accepted d → Stored d.symbols a.store.now a.start.parked a.start.held (opening gs ms)
+further : (c : goal.In-Ok) (d : Deck) (gs : List Goal) (ms : List Marked) → let a = c.args in open_deck a.clauses.now.deck.words.now ≡ accepted d → Stored d.symbols a.store.now a.start.parts.parked a.start.parts.held (opening gs ms)
     → Follows (started d a.answers.now a.store.now gs ms a.start.budget) c.loop-next.at.account.left c.turn.new.answers c.turn.new.store (Ok c.in-Ok.next)
 further c d gs ms o h = rw c.in-Ok.is at (c.turn.ensures (started d _ _ gs ms _) o (c.loop-next.invariant d gs ms o h))
 
 -- IT ENDS
-over : (c : goal.In-Err) (d : Deck) (gs : List Goal) (ms : List Marked) → let a = c.args in open_deck a.clauses.now.deck.now ≡ accepted d → Stored d.symbols a.store.now a.start.parked a.start.held (opening gs ms)
+over : (c : goal.In-Err) (d : Deck) (gs : List Goal) (ms : List Marked) → let a = c.args in open_deck a.clauses.now.deck.words.now ≡ accepted d → Stored d.symbols a.store.now a.start.parts.parked a.start.parts.held (opening gs ms)
     → Stops (started d a.answers.now a.store.now gs ms a.start.budget) c.turn.new.answers c.turn.new.store c.in-Err.end
 over c d gs ms o h = rw c.in-Err.is at (c.turn.ensures (started d _ _ gs ms _) o (c.loop-next.invariant d gs ms o h))
 
@@ -33,10 +33,10 @@ ends c = let p = c.requires.opening in over c p.deck p.goals p.parked_goals p.op
 pub loop-next-init : goal.loop-next-init
 loop-next-init c = λ d gs ms o h. rw c.new.ensures (goes_first h)
 
-pub turn-requires-clause-goes : goal.turn-requires-clause-goes
-turn-requires-clause-goes c =
+pub turn-requires : goal.turn-requires
+turn-requires c =
     let p = c.requires.opening in
-    record { started = started p.deck _ _ p.goals p.parked_goals _; opens = p.opens; is = known (goal.at.turn-requires-clause-goes c).At-loop-next }
+    record { started = started p.deck _ _ p.goals p.parked_goals _; opens = p.opens; is = known (goal.at.turn-requires c).At-loop-next }
 
 pub loop-next-smaller : goal.loop-next-smaller
 loop-next-smaller c = let p = c.requires.opening in (further (goal.at.loop-next-smaller c).In-Ok p.deck p.goals p.parked_goals p.opens p.stored).0

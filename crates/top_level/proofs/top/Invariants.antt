@@ -10,7 +10,7 @@ use Rattle.top_level.proofs.top.Given as goal
 
 abbrev pub invariant-loop-next : goal.invariant-loop-next
 invariant-loop-next l =
-    (d : Deck) (gs : List Goal) (ms : List Marked) → open_deck l.clauses.deck.now ≡ accepted d → Stored d.symbols l.initial.store l.parked l.held (opening gs ms)
+    (d : Deck) (gs : List Goal) (ms : List Marked) → open_deck l.clauses.deck.words.now ≡ accepted d → Stored d.symbols l.initial.store l.fn.start.parts.parked l.fn.start.parts.held (opening gs ms)
     → Goes (started d l.initial.answers l.initial.store gs ms l.budget) l.answers l.store l.at
 
 abbrev pub decreases-loop-next : goal.decreases-loop-next

@@ -3,7 +3,7 @@ use Prim.Native.Nat.{◌+◌, ◌-◌}
 use mathlib.Core.Path.{◌≡◌}
 use native.Mathlib.Omega.{arith}
 use lib.ListN.{length}
-use borrow.Rule.Slice.PartMut.{put_mid, same_len_mid}
+use borrow.Rule.Slice.PartMut.{put_mid}
 use Rattle.std.specs.Prelude.{Ok}
 use Rattle.std.proofs.lemmas.Result.{err_from_is_err_and}
 use Rattle.rules.specs.Refusals.{accepted}
@@ -18,12 +18,12 @@ ready : (c : goal.In_ok-due) → let a = c.args in (s : Started) → Goes s a.an
     → Due s (a.at.account.left + 1) a.answers.now a.store.now a.at (Ok tt)
 ready c s g = rw c.in_ok-due.was at (c.due.ensures s (c.args.at.account.left + 1) _ _ (omega arith, g))
 
-known : (c : goal.In_ok-due) → let a = c.args in Due c.requires.goes.started (a.at.account.left + 1) a.answers.now a.store.now a.at (Ok tt)
-known c = ready c c.requires.goes.started c.requires.goes.is
+known : (c : goal.In_ok-due) → let a = c.args in Due c.requires.started (a.at.account.left + 1) a.answers.now a.store.now a.at (Ok tt)
+known c = ready c c.requires.started c.requires.is
 
 -- What the step came to.
-took : (c : goal.After-take_step-taken) → let a = c.args in let p = a.at in (s : Started) → open_deck a.clauses.now.deck.now ≡ accepted s.deck → Goes s a.answers.now a.store.now p
-    → Stepped s a.answers.now (put_mid p.parked (length a.store.now - p.parked) a.store.now c.take_step-taken.new.store) p c.take_step-taken.result
+took : (c : goal.After-take_step-taken) → let a = c.args in let p = a.at in (s : Started) → open_deck a.clauses.now.deck.words.now ≡ accepted s.deck → Goes s a.answers.now a.store.now p
+    → Stepped s a.answers.now (put_mid p.parts.parked (length a.store.now - p.parts.parked) a.store.now c.take_step-taken.new.store) p c.take_step-taken.result
 took c s o g =
     let t = c.take_step-taken in
     let u : Due s (c.args.at.account.left + 1) c.args.answers.now c.args.store.now c.args.at (Ok tt) = rw c.in_ok-due.was at (c.due.ensures s (c.args.at.account.left + 1) _ _ (omega arith, g)) in
@@ -32,16 +32,12 @@ took c s o g =
 pub take_step-taken-requires : goal.take_step-taken-requires
 take_step-taken-requires c =
     let u = known (goal.at.take_step-taken-requires c).In_ok-due in
-    record { first = some_first u.3 u.1 _ c.requires.goes.opens; pays = u.2 }
+    record { first = some_first u.3 u.1 _ c.requires.opens; pays = u.2 }
 
 pub follow-requires : goal.follow-requires
 follow-requires c =
-    let g = c.requires.goes in
-    let p = c.args.at in
-    record {
-      stepped = record { started = g.started; is = took (goal.at.follow-requires c).After-take_step-taken g.started g.opens g.is };
-      short_store = omega (arith, same_len_mid p.parked (length c.args.store.now - p.parked) c.args.store.now c.take_step-taken.new.store c.take_step-taken.auto.store, c.requires.short_store);
-    }
+    let g = c.requires in
+    record { started = g.started; is = took (goal.at.follow-requires c).After-take_step-taken g.started g.opens g.is }
 
 pub returns-in_err-due : goal.returns-in_err-due
 returns-in_err-due c =

@@ -8,7 +8,7 @@ use Rattle.clauses.proofs.IndexLaws.{ahead-next}
 use Rattle.clauses.proofs.Clauses.about.Goals as goal
 use Rattle.clauses.proofs.Clauses.about.Goals.{After-first_about-ahead}
 
-first : (k : goal.After-first_about-ahead) (d : Deck) → open_deck k.args.self.now.deck.now ≡ accepted d → NextAbout k.args.p d.clauses 0 k.first_about-ahead.result
+first : (k : goal.After-first_about-ahead) (d : Deck) → open_deck k.args.self.now.deck.words.now ≡ accepted d → NextAbout k.args.p d.clauses 0 k.first_about-ahead.result
 first k d e = subst (NextAbout k.args.p d.clauses 0) (sym k.first_about-ahead.ensures) ((k.args.self.now.indexed d e).first k.args.p k.requires)
 
 pub invariant_of-result : goal.invariant_of-result

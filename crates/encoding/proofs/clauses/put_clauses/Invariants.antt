@@ -1,12 +1,11 @@
--- The invariant: the clauses are written as far as `place`.
-use Prim.Native.Nat.{◌-◌}
-use lib.ListN.{length}
-use Rattle.text.specs.Kinds.{kind_of}
+-- The invariant: the entries so far are written.
+use Rattle.text_rules.specs.TextWords.{entry_cell}
+use Rattle.text_rules.specs.Text.{text_declarations, text_entries}
 use Rattle.encoding.proofs.ClauseLaws.{Writing}
 use Rattle.encoding.proofs.clauses.put_clauses.Given as goal
 
-abbrev pub invariant-loop-cell : goal.invariant-loop-cell
-invariant-loop-cell l = Writing l.names.text l.initial.deck l.deck l.starts l.cells l.place (kind_of l.before) l.s
-
-abbrev pub decreases-loop-cell : goal.decreases-loop-cell
-decreases-loop-cell l = length l.names.text - l.place
+abbrev pub invariant-loop-entry : goal.invariant-loop-entry
+invariant-loop-entry l =
+    let text = l.names.all.text.text.now in
+    (goal.iterator-loop-entry).can_next l.entry-iterator × (goal.iterator-loop-entry).is_finite l.entry-iterator
+    × Writing (text_entries text) (entry_cell (text_declarations text)) l.initial.starts l.initial.cells l.entry-iterator l.s l.starts l.cells

@@ -1,13 +1,16 @@
--- The invariant: the clauses are walked as far as `at`.
-use Rattle.text.specs.Kinds.{kind_of}
-use Rattle.encoding.proofs.WalkLaws.{walk_none, walk-on, sized-all}
+-- The invariant: the entries so far are counted.
+use native.Mathlib.Omega.{arith}
+use Rattle.text_rules.specs.Text.{text_entries}
+use Rattle.encoding.proofs.WalkLaws.{walk-on, walk-end}
 use Rattle.encoding.proofs.sizes.sizes_of.Goals as goal
 
-pub loop-s-init : goal.loop-s-init
-loop-s-init c = walk_none c.args.text.now c.args.end c.requires
+pub with-s-requires : goal.with-s-requires
+with-s-requires c = let w = c.loop-entry.invariant.2 in (w.fewer, let o = c.in-Some.ensures.steps.next in omega (arith, w.few, o.1, o.2))
 
-pub returns-in-Ending : goal.returns-in-Ending
-returns-in-Ending c = let l = c.loop-s in sized-all c.args.text.now l.at (kind_of l.before) l.s c.next_token-t.result c.next_token-t.ensures l.invariant c.in-Ending.is
+pub loop-entry-preserved : goal.loop-entry-preserved
+loop-entry-preserved c =
+    let l = c.loop-entry in
+    (tt, tt, walk-on (text_entries c.args.all.text.text.now) l.entry-iterator c.next.new.self l.s l.invariant.2 c.in-Some.entry c.in-Some.ensures.steps.next c.with-s.result c.with-s.ensures)
 
-pub loop-s-preserved : goal.loop-s-preserved
-loop-s-preserved c = let l = c.loop-s in walk-on c.args.text.now l.at (kind_of l.before) l.s c.next_token-t.result c.next_token-t.ensures l.invariant c.in_default.not-Ending c.counted-s.result c.counted-s.ensures
+pub returns : goal.returns
+returns c = let l = c.loop-entry in walk-end (text_entries c.args.all.text.text.now) l.entry-iterator c.next.new.self l.s l.invariant.2 c.in-None.ensures.steps.next

@@ -1,12 +1,9 @@
--- The invariant: the clauses are walked as far as `at`.
-use Prim.Native.Nat.{◌-◌}
-use lib.ListN.{length}
-use Rattle.text.specs.Kinds.{kind_of}
+-- The invariant: the entries so far are counted.
+use Rattle.text_rules.specs.Text.{text_entries}
 use Rattle.encoding.proofs.WalkLaws.{Walked}
 use Rattle.encoding.proofs.sizes.sizes_of.Given as goal
 
-abbrev pub invariant-loop-s : goal.invariant-loop-s
-invariant-loop-s l = Walked l.text l.at (kind_of l.before) l.s
-
-abbrev pub decreases-loop-s : goal.decreases-loop-s
-decreases-loop-s l = length l.text - l.at
+abbrev pub invariant-loop-entry : goal.invariant-loop-entry
+invariant-loop-entry l =
+    (goal.iterator-loop-entry).can_next l.entry-iterator × (goal.iterator-loop-entry).is_finite l.entry-iterator
+    × Walked (text_entries l.all.text.text.now) l.entry-iterator l.s

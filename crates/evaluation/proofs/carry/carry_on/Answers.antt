@@ -1,37 +1,95 @@
 -- `carry_on`: the refusal of the checks, or the run from the goals.
+use mathlib.Core.Path.{◌≡◌, sym, ◌∙◌, ap}
+use native.Mathlib.Omega.{arith}
 use lib.ListN.{length}
-use Rattle.std.specs.Prelude.{Ok}
+use Rattle.std.specs.Prelude.{Ok, Err}
 use Rattle.std.proofs.lemmas.Result.{err_from_is_err_and}
+use Rattle.rules.specs.Syntax.{Deck}
+use Rattle.rules.specs.Refusals.{accepted}
+use Rattle.rules.specs.Decks.{open_deck}
 use Rattle.rules.specs.Run.{carry}
+use Rattle.deck.proofs.OpenLaws.{accepted-deck}
 use Rattle.evaluation.specs.Results.{CarriedAs}
-use Rattle.evaluation.proofs.CarryLaws.{ran-on-refused, carried-sizes, carried-in-order, ran-on-accepted}
+use Rattle.evaluation.proofs.RunLaws.{topped-as}
+use Rattle.evaluation.proofs.CarryLaws.{deck-refused, sizes-refused, carried-as, ran-on-refused, carried-sizes, carried-opens, ran-on-accepted}
 use Rattle.evaluation.proofs.carry.carry_on.Goals as goal
-use Rattle.evaluation.proofs.carry.carry_on.Goals.{In_ok-goals}
+use Rattle.evaluation.proofs.carry.carry_on.Goals.{In_ok-opened, In_ok-held}
 
--- The goals that are let through.
-let-through : (c : goal.In_ok-goals) → let a = c.args in
-    CarriedAs (carry a.deck.now a.pending a.parked a.terms a.store.now (length a.scratch.now)) a.store.now (Ok c.in_ok-goals.goals)
-let-through c = rw c.in_ok-goals.was at c.checks.ensures
-
-pub resumed-requires : goal.resumed-requires
-resumed-requires c =
-    let a = c.args in
-    let h = let-through (goal.at.resumed-requires c).In_ok-goals in
-    record {
-      in_order = carried-in-order a.deck.now a.pending a.parked a.terms a.store.now a.scratch.now _ h;
-      short_store = (carried-sizes a.deck.now a.pending a.parked a.terms a.store.now a.scratch.now _ h).1;
-      room = (carried-sizes a.deck.now a.pending a.parked a.terms a.store.now a.scratch.now _ h).0;
-    }
-
-pub returns-in_err-goals : goal.returns-in_err-goals
-returns-in_err-goals c =
+pub returns-in_err-opened : goal.returns-in_err-opened
+returns-in_err-opened c =
     let a = c.args in
     let p = err_from_is_err_and c.from_residual.result c.from_residual.ensures.1 in
-    rw (p.1, p.2) (ran-on-refused a.deck.now a.pending a.parked a.terms a.store.now a.scratch.now a.budget a.answers.now _ (rw c.in_err-goals.was at c.checks.ensures))
+    rw (p.1, p.2)
+    (ran-on-refused a.deck.now a.pending a.parked a.terms a.store.now a.scratch.now a.budget a.answers.now _
+    (deck-refused a.deck.now a.pending a.parked a.terms a.store.now (length a.scratch.now) _ c.in_err-opened.ensures.number))
+
+-- The deck that opened.
+deck : (c : goal.In_ok-opened) → (d : Deck) × (open_deck c.args.deck.now ≡ accepted d)
+deck c = let d = accepted-deck c.in_ok-opened.opened.words.now c.in_ok-opened.opened.opens in (d.0, ap open_deck (sym c.in_ok-opened.ensures.words) ∙ d.1)
+
+pub returns-in_err-sizes : goal.returns-in_err-sizes
+returns-in_err-sizes c =
+    let a = c.args in
+    let d = deck (goal.at.returns-in_err-sizes c).In_ok-opened in
+    let p = err_from_is_err_and c.from_residual-in_err-sizes.result c.from_residual-in_err-sizes.ensures.1 in
+    rw (p.1, p.2)
+    (ran-on-refused a.deck.now a.pending a.parked a.terms a.store.now a.scratch.now a.budget a.answers.now _
+    (sizes-refused a.deck.now a.pending a.parked a.terms a.store.now (length a.scratch.now) d.0 d.1 _ c.in_err-sizes.ensures))
+
+pub returns-in_err-held : goal.returns-in_err-held
+returns-in_err-held c =
+    let a = c.args in
+    let d = deck (goal.at.returns-in_err-held c).In_ok-opened in
+    let p = err_from_is_err_and c.from_residual-in_err-held.result c.from_residual-in_err-held.ensures.1 in
+    rw (p.1, p.2)
+    (ran-on-refused a.deck.now a.pending a.parked a.terms a.store.now a.scratch.now a.budget a.answers.now _
+    (carried-as a.deck.now a.pending a.parked a.terms a.store.now (length a.scratch.now) d.0 d.1 c.in_ok-sizes.ensures (Err c.in_err-held.field-0.0)
+    (c.in_err-held.ensures d.0 (ap open_deck c.in_ok-opened.ensures.words ∙ d.1))))
+
+-- The goals that are let through.
+let-through : (c : goal.In_ok-held) (d : Deck) → open_deck c.args.deck.now ≡ accepted d
+    → let a = c.args in CarriedAs (carry a.deck.now a.pending a.parked a.terms a.store.now (length a.scratch.now)) a.store.now (Ok ((c.in_ok-held.held, c.in_ok-held.end)))
+let-through c d o =
+    let a = c.args in
+    carried-as a.deck.now a.pending a.parked a.terms a.store.now (length a.scratch.now) d o c.in_ok-sizes.ensures (Ok ((c.in_ok-held.held, c.in_ok-held.end)))
+    (c.in_ok-held.ensures d (ap open_deck c.in_ok-opened.ensures.words ∙ o))
+
+pub from_goals-requires-clause-opening : goal.from_goals-requires-clause-opening
+from_goals-requires-clause-opening c =
+    let k = goal.at.from_goals-requires-clause-opening c in
+    let a = c.args in
+    let d = deck k.In_ok-opened in
+    let h = let-through k.In_ok-held d.0 d.1 in
+    let o = carried-opens a.deck.now a.pending a.parked a.terms a.store.now a.scratch.now _ h in
+    record {
+      deck = h.0.deck;
+      goals = h.0.goals.pending;
+      parked_goals = h.0.goals.parked;
+      opens = ap open_deck c.in_ok-opened.ensures.words ∙ o;
+      stored = c.resume.ensures h.0.deck.symbols h.0.goals.pending h.0.goals.parked h.2;
+    }
+
+pub from_goals-requires-clause-short_store : goal.from_goals-requires-clause-short_store
+from_goals-requires-clause-short_store c =
+    let k = goal.at.from_goals-requires-clause-short_store c in
+    let a = c.args in
+    let d = deck k.In_ok-opened in
+    omega (arith, c.resume.auto.store, (carried-sizes a.deck.now a.pending a.parked a.terms a.store.now a.scratch.now _ (let-through k.In_ok-held d.0 d.1)).1)
+
+pub from_goals-requires-clause-room : goal.from_goals-requires-clause-room
+from_goals-requires-clause-room c =
+    let k = goal.at.from_goals-requires-clause-room c in
+    let a = c.args in
+    let d = deck k.In_ok-opened in
+    (carried-sizes a.deck.now a.pending a.parked a.terms a.store.now a.scratch.now _ (let-through k.In_ok-held d.0 d.1)).0
 
 pub returns : goal.returns
 returns c =
+    let k = goal.at.returns c in
     let a = c.args in
-    let z = c.resumed in
-    ran-on-accepted a.deck.now a.pending a.parked a.terms a.store.now a.scratch.now _ (let-through (goal.at.returns c).In_ok-goals)
-    a.budget a.answers.now z.new.answers z.new.store z.new.scratch z.result z.auto.store z.auto.scratch z.ensures
+    let d = deck k.In_ok-opened in
+    let z = c.from_goals in
+    let r = c.resume in
+    ran-on-accepted a.deck.now a.pending a.parked a.terms a.store.now a.scratch.now _ (let-through k.In_ok-held d.0 d.1)
+    a.budget a.answers.now z.new.answers z.new.store z.new.scratch z.result (z.auto.store ∙ r.auto.store) z.auto.scratch
+    (λ d gs ms o h. topped-as r.auto.store (z.ensures d gs ms (ap open_deck c.in_ok-opened.ensures.words ∙ o) (r.ensures d.symbols gs ms h)))

@@ -4,10 +4,13 @@ use Rattle.matching.proofs.CellLaws.{args-functor, args-var}
 use Rattle.matching.proofs.cells.arity_of.Goals as goal
 
 pub arity-requires : goal.arity-requires
-arity-requires c = c.requires c.if-c-lt32768.true
+arity-requires c =
+    rw c.from-then-c-from.ensures (c.requires (rw c.from.ensures at c.if-c-from.true))
 
-pub returns-then-c-lt32768 : goal.returns-then-c-lt32768
-returns-then-c-lt32768 c = c.arity.ensures ∙ sym (args-functor _ _ c.if-c-lt32768.true)
+pub returns-then-c-from : goal.returns-then-c-from
+returns-then-c-from c =
+    (rw c.from-then-c-from.ensures at c.arity.ensures) ∙ sym (args-functor _ _ (rw c.from.ensures at c.if-c-from.true))
 
-pub returns-else-c-lt32768 : goal.returns-else-c-lt32768
-returns-else-c-lt32768 c = sym (args-var _ _ c.if-c-lt32768.false)
+pub returns-else-c-from : goal.returns-else-c-from
+returns-else-c-from c =
+    sym (args-var _ _ (rw c.from.ensures at c.if-c-from.false))

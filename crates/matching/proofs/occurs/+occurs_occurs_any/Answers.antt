@@ -15,10 +15,10 @@ occurs-invariant_of-bound t c = record { good = c.requires.checking.state.good }
 pub occurs-bounds-terms-at : goal.occurs-bounds-terms-at
 occurs-bounds-terms-at t c = c.resolve-at.ensures.final.inside
 
-pub occurs-returns-then-c-ge32768 : goal.occurs-returns-then-c-ge32768
-occurs-returns-then-c-ge32768 t c =
+pub occurs-returns-then-c-ge-VARIABLE : goal.occurs-returns-then-c-ge-VARIABLE
+occurs-returns-then-c-ge-VARIABLE t c =
     record {
-      occurs = occurs-cell c.requires.checking c.resolve-at.ensures c.if-c-ge32768.true;
+      occurs = occurs-cell c.requires.checking c.resolve-at.ensures c.if-c-ge-VARIABLE.true;
       checking_after = c.requires.checking;
       bindings_kept = same_refl c.args.table.now;
     }
@@ -38,18 +38,18 @@ occurs-returns-then-marked t c =
       bindings_kept = same_refl c.args.table.now;
     }
 
-pub occurs-arity_of-arity-requires : goal.occurs-arity_of-arity-requires
-occurs-arity_of-arity-requires t c =
-    c.requires.checking.state.good.formed.known _ c.resolve-at.ensures.final.inside
+pub occurs-arity-arity-requires : goal.occurs-arity-arity-requires
+occurs-arity-arity-requires t c =
+    c.resolve-at.ensures.final.inside
 
 pub occurs-occurs_any-requires : goal.occurs-occurs_any-requires
 occurs-occurs_any-requires t c =
-    (below c.decreases (args-smaller c.requires.checking c.resolve-at.ensures c.arity_of-arity.ensures c.if-c-ge32768.false), (c.requires.checking, args-enough c.requires.checking.state.good _ c.arity_of-arity.ensures c.resolve-at.ensures.final))
+    (below c.decreases (args-smaller c.requires.checking c.resolve-at.ensures c.arity-arity.ensures c.if-c-ge-VARIABLE.false), (c.requires.checking, args-enough c.requires.checking.state.good _ c.arity-arity.ensures c.resolve-at.ensures.final))
 
 pub occurs-returns-then-occurs_any : goal.occurs-returns-then-occurs_any
 occurs-returns-then-occurs_any t c =
     record {
-      occurs = occurs-args c.requires.checking c.resolve-at.ensures c.arity_of-arity.ensures c.if-c-ge32768.false (occurs-by c.occurs_any.ensures.occurs c.if-occurs_any.true);
+      occurs = occurs-args c.requires.checking c.resolve-at.ensures c.arity-arity.ensures c.if-c-ge-VARIABLE.false (occurs-by c.occurs_any.ensures.occurs c.if-occurs_any.true);
       checking_after = c.occurs_any.ensures.checking_after;
       bindings_kept = c.occurs_any.ensures.bindings_kept;
     }
@@ -63,10 +63,10 @@ occurs-mark-requires t c =
 
 pub occurs-returns : goal.occurs-returns
 occurs-returns t c =
-    let w = occurs-args c.requires.checking c.resolve-at.ensures c.arity_of-arity.ensures c.if-c-ge32768.false (occurs-by c.occurs_any.ensures.occurs c.if-occurs_any.false) in
+    let w = occurs-args c.requires.checking c.resolve-at.ensures c.arity-arity.ensures c.if-c-ge-VARIABLE.false (occurs-by c.occurs_any.ensures.occurs c.if-occurs_any.false) in
     record {
       occurs = w;
-      checking_after = marked_more c.occurs_any.ensures.checking_after c.requires.p_in_bounds c.resolve-at.ensures c.if-c-ge32768.false (w.if-not refl) c.mark.ensures.table_after;
+      checking_after = marked_more c.occurs_any.ensures.checking_after c.requires.p_in_bounds c.resolve-at.ensures c.if-c-ge-VARIABLE.false (w.if-not refl) c.mark.ensures.table_after;
       bindings_kept = same-on c.occurs_any.ensures.bindings_kept c.mark.ensures.bindings_kept;
     }
 

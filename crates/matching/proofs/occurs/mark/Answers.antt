@@ -6,18 +6,18 @@ use Rattle.matching.specs.Bindings.{stamped}
 use Rattle.rules.proofs.TermLaws.{ite-yes, ite-no}
 use Rattle.matching.proofs.occurs.mark.Goals as goal
 
-pub returns-then-cell-ge32768 : goal.returns-then-cell-ge32768
+pub returns-then-cell-ge-VARIABLE : goal.returns-then-cell-ge-VARIABLE
 unfolding stamped
-returns-then-cell-ge32768 c =
+returns-then-cell-ge-VARIABLE c =
     record {
-      table_after = sym (ite-no (dec_lt c.args.cell 32768) _ _ (λ l. omega (arith, c.if-cell-ge32768.true)));
+      table_after = rw c.from.ensures (sym (ite-no (dec_lt c.args.cell 32768) _ _ (λ l. omega (arith, c.if-cell-ge-VARIABLE.true))));
       bindings_kept = record { bind = refl; trail = refl; bound = refl };
     }
 
-pub returns-else-cell-ge32768 : goal.returns-else-cell-ge32768
+pub returns-else-cell-ge-VARIABLE : goal.returns-else-cell-ge-VARIABLE
 unfolding stamped
-returns-else-cell-ge32768 c =
+returns-else-cell-ge-VARIABLE c =
     record {
-      table_after = sym (ite-yes (dec_lt c.args.cell 32768) _ _ c.if-cell-ge32768.false);
+      table_after = sym (ite-yes (dec_lt c.args.cell 32768) _ _ c.if-cell-ge-VARIABLE.false);
       bindings_kept = record { bind = refl; trail = refl; bound = refl };
     }

@@ -20,48 +20,48 @@ pair-bounds-terms-b t c = c.requires.right.inside
 
 pub pair-returns-then-c-d : goal.pair-returns-then-c-d
 pair-returns-then-c-d t c =
-    ran-none 1 (c.args.left - 1) c.requires.state (omega (arith, c.if-left-eq0.false)) (pair_same c.requires c.if-c-ge32768.true c.if-c-d.true)
+    ran-none 1 (c.args.left - 1) c.requires.state (omega (arith, c.if-left-eq0.false)) (pair_same c.requires c.if-c-ge-VARIABLE.true c.if-c-d.true)
 
 pub pair-eliminate-requires : goal.pair-eliminate-requires
 pair-eliminate-requires t c =
     record {
       state = c.requires.state;
-      free = final-free c.requires.state.good c.requires.left c.if-c-ge32768.true;
+      free = final-free c.requires.state.good c.requires.left c.if-c-ge-VARIABLE.true;
       final_place = c.requires.right;
     }
 
-pub pair-returns-then-c-ge32768 : goal.pair-returns-then-c-ge32768
-pair-returns-then-c-ge32768 t c =
-    ran-one c.eliminate.ensures c.if-left-eq0.false (pair_left c.requires c.if-c-ge32768.true c.if-c-d.false)
+pub pair-returns-then-c-ge-VARIABLE : goal.pair-returns-then-c-ge-VARIABLE
+pair-returns-then-c-ge-VARIABLE t c =
+    ran-one c.eliminate.ensures c.if-left-eq0.false (pair_left c.requires c.if-c-ge-VARIABLE.true c.if-c-d.false)
 
-pub pair-eliminate-requires-then-d-ge32768 : goal.pair-eliminate-requires-then-d-ge32768
-pair-eliminate-requires-then-d-ge32768 t c =
+pub pair-eliminate-requires-then-d-ge-VARIABLE : goal.pair-eliminate-requires-then-d-ge-VARIABLE
+pair-eliminate-requires-then-d-ge-VARIABLE t c =
     record {
       state = c.requires.state;
-      free = final-free c.requires.state.good c.requires.right c.if-d-ge32768.true;
+      free = final-free c.requires.state.good c.requires.right c.if-d-ge-VARIABLE.true;
       final_place = c.requires.left;
     }
 
-pub pair-returns-then-d-ge32768 : goal.pair-returns-then-d-ge32768
-pair-returns-then-d-ge32768 t c =
-    ran-one c.eliminate-then-d-ge32768.ensures c.if-left-eq0.false (pair-right c.requires c.if-c-ge32768.false c.if-d-ge32768.true)
+pub pair-returns-then-d-ge-VARIABLE : goal.pair-returns-then-d-ge-VARIABLE
+pair-returns-then-d-ge-VARIABLE t c =
+    ran-one c.eliminate-then-d-ge-VARIABLE.ensures c.if-left-eq0.false (pair-right c.requires c.if-c-ge-VARIABLE.false c.if-d-ge-VARIABLE.true)
 
 pub pair-returns-then-c-d-2 : goal.pair-returns-then-c-d-2
 pair-returns-then-c-d-2 t c =
-    ran-fails 1 (c.args.left - 1) c.requires.state (omega (arith, c.if-left-eq0.false)) (pair-differ c.requires c.if-c-ge32768.false c.if-d-ge32768.false c.if-c-d-2.true)
+    ran-fails 1 (c.args.left - 1) c.requires.state (omega (arith, c.if-left-eq0.false)) (pair-differ c.requires c.if-c-ge-VARIABLE.false c.if-d-ge-VARIABLE.false c.if-c-d-2.true)
 
-pub pair-arity_of-arity-requires : goal.pair-arity_of-arity-requires
-pair-arity_of-arity-requires t c =
-    c.requires.state.good.formed.known _ c.requires.left.inside
+pub pair-arity-arity-requires : goal.pair-arity-arity-requires
+pair-arity-arity-requires t c =
+    c.requires.left.inside
 
 pub pair-pairs-requires : goal.pair-pairs-requires
 pair-pairs-requires t c =
-    let a = c.arity_of-arity.ensures in
-    (below c.decreases (args-fewer c.requires _ a c.if-c-ge32768.false c.if-d-ge32768.false c.if-c-d-2.false), (c.requires.state, (args-enough c.requires.state.good _ a c.requires.left, args-there c.requires _ a c.if-c-d-2.false)))
+    let a = c.arity-arity.ensures in
+    (below c.decreases (args-fewer c.requires _ a c.if-c-ge-VARIABLE.false c.if-d-ge-VARIABLE.false c.if-c-d-2.false), (c.requires.state, (args-enough c.requires.state.good _ a c.requires.left, args-there c.requires _ a c.if-c-d-2.false)))
 
 pub pair-returns : goal.pair-returns
 pair-returns t c =
-    ran-args c.requires _ c.arity_of-arity.ensures c.if-c-ge32768.false c.if-d-ge32768.false c.if-c-d-2.false c.pairs.ensures c.if-left-eq0.false
+    ran-args c.requires _ c.arity-arity.ensures c.if-c-ge-VARIABLE.false c.if-d-ge-VARIABLE.false c.if-c-d-2.false c.pairs.ensures c.if-left-eq0.false
 
 pub pairs-returns-then-number-eq0 : goal.pairs-returns-then-number-eq0
 pairs-returns-then-number-eq0 t c =

@@ -39,7 +39,7 @@ returns-then-found c =
 
 pub returns : goal.returns
 returns c =
-    binds _ _ c.occurs-found.ensures.bindings_kept c.occurs-found.ensures.checking_after c.requires.free _ c.requires.final_place (occurs-by c.occurs-found.ensures.occurs c.if-found.false)
+    rw c.from.ensures (binds _ _ c.occurs-found.ensures.bindings_kept c.occurs-found.ensures.checking_after c.requires.free _ c.requires.final_place (occurs-by c.occurs-found.ensures.occurs c.if-found.false))
 
 pub bounds-table-table : goal.bounds-table-table
 bounds-table-table c = omega (arith, trail-room _ _ c.occurs-found.ensures.bindings_kept c.occurs-found.ensures.checking_after c.requires.free)

@@ -6,10 +6,10 @@ use Rattle.matching.proofs.unify.unify_terms.Goals as goal
 pub pairs-requires : goal.pairs-requires
 pairs-requires c =
     record {
-      state = rw c.requires.empty (ready-state c.requires.ready c.requires.blank);
+      state = ready-state c.requires.ready c.requires.blank;
       left_bound = c.requires.left_bound;
       right_bound = c.requires.right_bound;
     }
 
 pub returns : goal.returns
-returns c = let a = c.args in ran-ended a.p a.q a.number (rw c.requires.empty at c.pairs.ensures)
+returns c = let a = c.args in ran-ended a.p a.q a.number c.pairs.ensures

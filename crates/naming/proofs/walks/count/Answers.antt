@@ -1,20 +1,11 @@
--- The invariant: so many declarations are passed.
-use Rattle.std.proofs.Common.{subst}
-use Rattle.naming.specs.Walks.{At}
-use Rattle.naming.proofs.WalkLaws.{passed_none, passed-one, passed_counted}
+-- The walk has come to its end.
+use Rattle.std.proofs.Common.{sym, ap}
+use Rattle.text.specs.declared.readable.Readable.{Readable}
+use Rattle.naming.proofs.WalkLaws.{passed_counted}
 use Rattle.naming.proofs.walks.count.Goals as goal
 
-pub loop-d-init : goal.loop-d-init
-loop-d-init c = passed_none c.args.text.now c.requires
-
-pub loop-d-preserved : goal.loop-d-preserved
-loop-d-preserved c =
-    let text = c.args.text.now in
+pub invariant_of-result : goal.invariant_of-result
+invariant_of-result c =
     let l = c.loop-d in
-    passed-one text l.size.end l.size.count l.invariant c.in-Some.d (subst (At text l.size.end) c.in-Some.is c.item_at.ensures)
-
-pub returns : goal.returns
-returns c =
-    let text = c.args.text.now in
-    let l = c.loop-d in
-    passed_counted text l.size.end l.size.count l.invariant (subst (At text l.size.end) c.in_default.is c.item_at.ensures)
+    let s = l.d-iterator in
+    record { counted = rw (l.invariant.count, l.invariant.end, sym (ap (λ (r : Readable). r.text.now) l.invariant.text)) (passed_counted s.text.text.now s.at s.count s.passed c.in-None.ensures.steps.found) }

@@ -1,10 +1,7 @@
--- The invariant: so many declarations are passed.
-use Rattle.std.proofs.Common.{◌-◌, length}
-use Rattle.naming.specs.Walks.{Passed}
+-- The invariant: the walk has come to that number and that place.
+use Rattle.std.proofs.Common.{◌≡◌}
 use Rattle.naming.proofs.walks.count.Given as goal
 
 abbrev pub invariant-loop-d : goal.invariant-loop-d
-invariant-loop-d l = Passed l.text l.size.end l.size.count
-
-abbrev pub decreases-loop-d : goal.decreases-loop-d
-decreases-loop-d l = length l.text - l.size.end
+invariant-loop-d l =
+    record { text : l.d-iterator.text ≡ l.text; count : l.count ≡ l.d-iterator.count; end : l.end ≡ l.d-iterator.at }

@@ -1,8 +1,6 @@
 -- The words are read, and open.
 use Rattle.listing.specs.Printed.{file_of}
-use Rattle.std.proofs.Common.{sym}
 use Rattle.std.proofs.lemmas.Result.{err_from_is_err_and}
-use Rattle.deck.specs.Answers.{refusal_for}
 use Rattle.deck.proofs.RefusalLaws.{number-accepts, number-refuses}
 use Rattle.program.proofs.InputLaws.{deck_input-unread, deck_input-unopened, deck_input-opened}
 use Rattle.program.proofs.input.opened_deck.Goals as goal

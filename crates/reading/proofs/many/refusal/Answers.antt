@@ -8,11 +8,13 @@ use Rattle.reading.proofs.many.refusal.Goals as goal
 pub returns-then-fits : goal.returns-then-fits
 returns-then-fits c = λ before e.
     let a = c.args in
-    let f = ap (fitting a.text.now) e ∙ fits-fitting a.text.now a.all.count a.all.end c.sizes_of-s.result c.requires.2 c.sizes_of-s.ensures a.words c.fits.result c.fits.ensures ∙ c.if-fits.true in
-    did-refuse a.text.now before c.requires.0 f before Header (many-symbols a.text.now (omega (arith, c.requires.1, c.requires.2.count))) refl
+    let t = a.all.text.text.now in
+    let f = ap (fitting t) e ∙ fits-fitting t a.all.count a.all.end c.sizes_of-s.result a.all.counted c.sizes_of-s.ensures a.words c.fits.result c.fits.ensures ∙ c.if-fits.true in
+    did-refuse t before c.requires.0 f before Header (many-symbols t (omega (arith, c.requires.1, a.all.counted.count))) refl
 
 pub returns-else-fits : goal.returns-else-fits
 returns-else-fits c = λ before e.
     let a = c.args in
-    did-full a.text.now before c.requires.0
-    (ap (fitting a.text.now) e ∙ fits-fitting a.text.now a.all.count a.all.end c.sizes_of-s.result c.requires.2 c.sizes_of-s.ensures a.words c.fits.result c.fits.ensures ∙ c.if-fits.false)
+    let t = a.all.text.text.now in
+    did-full t before c.requires.0
+    (ap (fitting t) e ∙ fits-fitting t a.all.count a.all.end c.sizes_of-s.result a.all.counted c.sizes_of-s.ensures a.words c.fits.result c.fits.ensures ∙ c.if-fits.false)

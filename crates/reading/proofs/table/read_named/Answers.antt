@@ -1,18 +1,12 @@
 -- By the answer on the uses.
-use mathlib.Core.Path.{ap, ◌∙◌}
-use Rattle.text.specs.Steps.{option_of}
-use Rattle.reading.proofs.ResultLaws.{did-bad, bad-use, readable, uses-none}
+use Rattle.reading.proofs.ResultLaws.{did-bad, bad-use, readable, uses-none, once}
 use Rattle.reading.proofs.table.read_named.Goals as goal
 
 pub returns-in-Some : goal.returns-in-Some
 returns-in-Some c =
-    let t = c.args.names.now.text in
-    let p = c.in-Some.name in
-    let found = rw c.text.ensures at c.misused.ensures in
-    did-bad t c.args.deck.now p (bad-use t c.requires.readable c.requires.declared.0.distinct p (found ∙ ap option_of c.in-Some.is))
+    let d = c.args.names in
+    let t = d.all.text in
+    did-bad t.text.now c.args.deck.now c.in-Some.name (bad-use t.text.now t.in_grammar (once d) c.in-Some.name c.in-Some.ensures)
 
 pub read_used-requires : goal.read_used-requires
-read_used-requires c =
-    let t = c.args.names.now.text in
-    let found = rw c.text.ensures at c.misused.ensures in
-    record { readable = (c.requires.readable, readable t c.requires.readable c.requires.declared.0.distinct (uses-none t (found ∙ ap option_of c.in-None.is))); declared = c.requires.declared }
+read_used-requires c = let d = c.args.names in let t = d.all.text in readable t.text.now t.in_grammar (once d) (uses-none t.text.now c.in-None.ensures)

@@ -2,16 +2,16 @@
 use native.Mathlib.Omega.{arith}
 use Rattle.resolvents.proofs.VariableLaws.{copying-none, copying-symbol, copying-variable, copying-all}
 use Rattle.resolvents.proofs.fresh.copy_fresh.Goals as goal
-use Rattle.resolvents.proofs.fresh.copy_fresh.Goals.{then-c-lt32768, else-c-lt32768}
+use Rattle.resolvents.proofs.fresh.copy_fresh.Goals.{then-c-lt-VARIABLE, else-c-lt-VARIABLE}
 
 pub loop-i-init : goal.loop-i-init
 loop-i-init c = copying-none c.args.clause.now c.args.cells.now c.args.to c.args.n
 
 pub loop-i-preserved : goal.loop-i-preserved
 loop-i-preserved c =
-    elim c.if-c-lt32768.branch [
-      | then-c-lt32768 w ↦ rw w.cells-is (copying-symbol c.loop-i.invariant (omega arith) w.if-c-lt32768.true)
-      | else-c-lt32768 w ↦ rw w.cells-is (copying-variable c.loop-i.invariant (omega arith) w.if-c-lt32768.false)
+    elim c.if-c-lt-VARIABLE.branch [
+      | then-c-lt-VARIABLE w ↦ rw w.cells-is (copying-symbol c.loop-i.invariant (omega arith) w.if-c-lt-VARIABLE.true)
+      | else-c-lt-VARIABLE w ↦ rw w.cells-is (copying-variable c.loop-i.invariant (omega arith) w.if-c-lt-VARIABLE.false)
     ]
 
 pub returns : goal.returns

@@ -18,6 +18,6 @@ returns-in-Ok-clause-attempted_by c =
     let is = c.in-Ok.ensures.is in
     let b = c.unify_terms.new.table in (
       rest-left _ is.1 is.2,
-      derived-solved c.args.symbols.now c.args.cells.now b.bind b.trail b.bound c.args.call.len c.args.call.answers c.args.call.s c.args.call.e c.skip-body.result
+      derived-solved c.args.symbols.now c.args.cells.now b.bind b.trail b.bound c.args.call c.skip-body.result
           (head-ends c.skip-body.result c.requires.together c.skip-body.ensures.0 c.skip-body.ensures.1) _ _ _ is.1 c.write_child-written.ensures.child,
     )

@@ -25,17 +25,17 @@ offset_bounds-cells-at c = omega arith
 pub bounds-cells-at : goal.bounds-cells-at
 bounds-cells-at c = omega arith
 
-pub returns-then-cells-at-lt16384 : goal.returns-then-cells-at-lt16384
-returns-then-cells-at-lt16384 c = λ S g h. passed-positive (walked (goal.at.returns-then-cells-at-lt16384 c).After-skip-end) (c.loop-at.invariant S g h) c.if-cells-at-lt16384.true
+pub returns-then-cells-at-lt-NEGATED : goal.returns-then-cells-at-lt-NEGATED
+returns-then-cells-at-lt-NEGATED c = λ S g h. passed-positive (walked (goal.at.returns-then-cells-at-lt-NEGATED c).After-skip-end) (c.loop-at.invariant S g h) c.if-cells-at-lt-NEGATED.true
 
 pub returns-then-ground : goal.returns-then-ground
-returns-then-ground c = λ S g h. passed-negative (walked (goal.at.returns-then-ground c).After-skip-end) (c.loop-at.invariant S g h) c.if-cells-at-lt16384.false (rw c.if-ground.true at c.ground.ensures)
+returns-then-ground c = λ S g h. passed-negative (walked (goal.at.returns-then-ground c).After-skip-end) (c.loop-at.invariant S g h) c.if-cells-at-lt-NEGATED.false (rw c.if-ground.true at c.ground.ensures)
 
 pub loop-at-smaller : goal.loop-at-smaller
 loop-at-smaller c = let on = walked_on (walked (goal.at.loop-at-smaller c).After-skip-end) in omega (arith, c.skip-end.ensures.0)
 
 pub loop-at-preserved : goal.loop-at-preserved
-loop-at-preserved c = λ S g h. passed-more (walked (goal.at.loop-at-preserved c).After-skip-end) (c.loop-at.invariant S g h) c.if-cells-at-lt16384.false (rw c.if-ground.false at c.ground.ensures)
+loop-at-preserved c = λ S g h. passed-more (walked (goal.at.loop-at-preserved c).After-skip-end) (c.loop-at.invariant S g h) c.if-cells-at-lt-NEGATED.false (rw c.if-ground.false at c.ground.ensures)
 
 pub returns : goal.returns
 returns c = λ S g h. passed-all (c.loop-at.invariant S g h) (omega arith)

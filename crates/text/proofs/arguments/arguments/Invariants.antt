@@ -1,10 +1,7 @@
--- The invariant: the arguments are counted as far as the place.
-use Rattle.std.proofs.Common.{◌-◌, length}
+-- The invariant: the arguments are counted as far as the walk has come.
+use Rattle.std.proofs.Common.{◌≡◌}
 use Rattle.text.proofs.CountLaws.{CountTo}
 use Rattle.text.proofs.arguments.arguments.Given as goal
 
-abbrev pub invariant-loop-next : goal.invariant-loop-next
-invariant-loop-next l = CountTo l.text l.at l.place l.count
-
-abbrev pub decreases-loop-next : goal.decreases-loop-next
-decreases-loop-next l = length l.text - l.place
+abbrev pub invariant-loop-t : goal.invariant-loop-t
+invariant-loop-t l = record { same : l.t-iterator.text.now ≡ l.text; counted : CountTo l.text l.fn.at l.t-iterator.at l.count }

@@ -1,11 +1,9 @@
--- The invariant: the declarations before `at` are looked up.
-use Prim.Native.Nat.{◌-◌}
-use lib.ListN.{length}
+-- The invariant: the declarations so far are looked up.
+use mathlib.Core.Path.{◌≡◌}
 use Rattle.uses.proofs.ArityLaws.{WalkedTo}
 use Rattle.uses.proofs.arities.declared.Given as goal
 
 abbrev pub invariant-loop-d : goal.invariant-loop-d
-invariant-loop-d l = WalkedTo l.names l.found l.at
-
-abbrev pub decreases-loop-d : goal.decreases-loop-d
-decreases-loop-d l = length l.text - l.at
+invariant-loop-d l =
+    (goal.iterator-loop-d).can_next l.d-iterator × (goal.iterator-loop-d).is_finite l.d-iterator
+    × (l.d-iterator.text.text.now ≡ l.names.text) × WalkedTo l.names l.found l.d-iterator.at

@@ -3,6 +3,7 @@ use mathlib.Core.List.{List}
 use Prim.Native.Nat.{ℕ, ◌+◌, ◌-◌, ◌<◌, ◌≤◌}
 use mathlib.Core.Path.{◌≡◌, ap, sym, ◌∙◌, subst}
 use native.Mathlib.Omega.{arith}
+use borrow.Author.Tests.{eqb-true}
 use lib.ListN.{length, length-drop, get_or, take, drop}
 use Rattle.std.proofs.lemmas.List.{take_all}
 use Rattle.uses.specs.Pairs.{mark_of, in_brackets}
@@ -25,10 +26,11 @@ stepped c =
     c.step.ensures (in_brackets (marks bs)) i (i + 1) (mark_token (get_or bs i 0)) (marks (drop (i + 1) bs)) (ap (λ l. mark_of (get_or l i 0)) (sym all)) (omega arith)
     (subst (CountedBy (in_brackets (marks bs)) i c.loop-byte.counting) (marks-next bs i inside) c.loop-byte.invariant)
 
-pub returns-then-counting-eq0 : goal.returns-then-counting-eq0
-returns-then-counting-eq0 c = λ i k ks l q.
+pub returns-then-is_empty : goal.returns-then-is_empty
+returns-then-is_empty c = λ i k ks l q.
     let bs = drop c.args.from c.args.text.now in
-    given-full _ _ _ _ _ _ (marks bs) _ (stepped (goal.at.returns-then-counting-eq0 c).After-step) c.if-counting-eq0.true c.if-counting-eq4096.true i k ks l (ap (drop i) (marks-numbers bs) ∙ q)
+    let none : length c.step.new.self.row.items ≡ 0 = eqb-true _ _ (sym c.is_empty.ensures ∙ c.if-is_empty.true) in
+    given-full _ _ _ _ _ (marks bs) _ (stepped (goal.at.returns-then-is_empty c).After-step) none c.if-counting-eq4096.true i k ks l (ap (drop i) (marks-numbers bs) ∙ q)
 
 pub loop-byte-preserved : goal.loop-byte-preserved
 loop-byte-preserved c = stepped (goal.at.loop-byte-preserved c).After-step
@@ -39,4 +41,4 @@ returns c = λ i k ks l q.
     let at = c.loop-byte.byte-index in
     let past : length bs ≤ at = rw (bytes c.args.text.now c.args.from) at c.loop-byte-test.false in
     let C : CountedBy (in_brackets (marks bs)) at c.loop-byte.counting _ = subst (CountedBy (in_brackets (marks bs)) at c.loop-byte.counting) (marks-end bs at past) c.loop-byte.invariant in
-    given-all _ _ _ _ _ _ (marks bs) C c.ended.result (λ i h. c.ended.ensures (in_brackets (marks bs)) at C i h) i k ks l (ap (drop i) (marks-numbers bs) ∙ q)
+    given-all _ _ _ _ _ (marks bs) C i k ks l (ap (drop i) (marks-numbers bs) ∙ q)

@@ -1,13 +1,9 @@
 -- The invariant: the names as far as `at` are gathered.
-use Prim.Native.Nat.{◌-◌}
 use mathlib.Core.Path.{◌≡◌}
-use lib.ListN.{length}
 use Rattle.uses.specs.Batches.{Gathered}
-use Rattle.uses.proofs.CheckLaws.{PairsTo}
 use Rattle.uses.proofs.gathering.gather.Given as goal
 
-abbrev pub invariant-loop-i : goal.invariant-loop-i
-invariant-loop-i l = PairsTo l.text l.start l.at l.i × Gathered l.names l.start l.at × (l.names.text ≡ l.text)
-
-abbrev pub decreases-loop-i : goal.decreases-loop-i
-decreases-loop-i l = length l.text - l.at
+abbrev pub invariant-loop-u : goal.invariant-loop-u
+invariant-loop-u l =
+    (goal.iterator-loop-u).can_next l.u-iterator × (goal.iterator-loop-u).is_finite l.u-iterator
+    × (l.names.text ≡ l.initial.names.text) × (l.u-iterator.text.text.now ≡ l.names.text) × (l.u-iterator.at ≡ l.at) × Gathered l.names l.start l.at

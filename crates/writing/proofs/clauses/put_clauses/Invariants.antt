@@ -6,4 +6,4 @@ use Rattle.writing.specs.Writes.{deck_of}
 use Rattle.writing.proofs.clauses.put_clauses.Given as goal
 
 abbrev pub invariant-loop-i : goal.invariant-loop-i
-invariant-loop-i l = Left l.initial.out (clauses_text (deck_of l.deck).clauses) l.out (clauses_text (drop l.i (deck_of l.deck).clauses))
+invariant-loop-i l = Left l.initial.out (clauses_text (deck_of l.deck.words.now).clauses) l.out (clauses_text (drop l.i (deck_of l.deck.words.now).clauses))

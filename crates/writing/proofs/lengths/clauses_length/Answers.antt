@@ -1,62 +1,50 @@
--- The invariant: the length of the clauses from i on is still to be added.
-use Prim.Native.Nat.{◌+◌, ◌≤◌, ◌<◌}
-use mathlib.Core.Path.{ap}
-use mathlib.Core.List.{[]}
+-- The sum of the clauses' shares.
+use Prim.Native.Nat.{◌≤◌}
+use mathlib.Core.Path.{◌≡◌, ◌∙◌}
 use native.Mathlib.Omega.{arith}
-use lib.ListN.{length, drop, length-append}
-use Rattle.text_rules.specs.TextWriter.{clause_text, clauses_text}
+use lib.ListN.{length}
+use Rattle.text_rules.specs.TextWriter.{clauses_text}
+use Rattle.std.specs.Prelude.{sum_by}
+use Rattle.std.specs.List.{range_with_len}
+use Rattle.std.proofs.Common.{rules}
+use Rattle.std.proofs.lemmas.Iterator.{YieldsList-from_range, YieldsList-from_map, serves_from_Range}
+use Rattle.std.proofs.lemmas.Iterator.Consumers.{sum_by_from_yields_List, fits_by_from_yields_list}
 use Rattle.writing.specs.Writes.{deck_of}
-use Rattle.writing.proofs.TextParts.{clauses-next, clauses-end}
-use Rattle.writing.proofs.DeckLaws.{header-fits, starts-fit, known-symbols, clause-count, few-clauses, clause_of, row-short, row-bytes}
+use Rattle.writing.specs.Lengths.{clause_bytes_at}
+use Rattle.writing.proofs.DeckLaws.{clause-count, few-clauses, clauses-sum}
 use Rattle.writing.proofs.lengths.clauses_length.Goals as goal
-use Rattle.writing.proofs.lengths.clauses_length.Goals.{At-loop-i, In-loop-i}
+use Rattle.writing.proofs.lengths.clauses_length.Goals.{After-clause_count}
 
-inside : (c : goal.In-loop-i) → c.loop-i.i < length (deck_of c.args.deck.now).clauses
-inside c = omega (arith, c.loop-i-test.true, c.clause_count-count.ensures, clause-count c.args.deck.now c.requires)
+-- What the sum is, and that it is small.
+total :
+    (c : After-clause_count) → let text = length (clauses_text (deck_of c.args.deck.now.words.now).clauses) in
+    (sum_by (clause_bytes_at c.args.deck.now.words.now) (range_with_len 0 c.clause_count.result) ≡ text) × (text ≤ 134250496)
+total c =
+    let ws = c.args.deck.now.words.now in
+    let k = c.args.deck.now.opens in
+    let e : c.clause_count.result ≡ length (deck_of ws).clauses = c.clause_count.ensures ∙ clause-count ws k in
+    let s = clauses-sum ws k c.clause_count.result 0 (omega (arith, e)) in
+    (s.0, omega (arith, s.1, e, few-clauses ws k))
 
-few : (c : goal.At-loop-i) → c.clause_count-count.result ≤ 16384
-few c = omega (arith, c.clause_count-count.ensures, clause-count c.args.deck.now c.requires, few-clauses c.args.deck.now c.requires)
+pub sum-requires-clause-can : goal.sum-requires-clause-can
+sum-requires-clause-can c = (tt, serves_from_Range (λ x q k. search rules) (λ x l u. search (rules, arith, c.map.ensures.source)))
 
-pub symbols-symbols-requires : goal.symbols-symbols-requires
-symbols-symbols-requires c = header-fits c.args.deck.now c.requires
-
-pub clause_count-count-requires : goal.clause_count-count-requires
-clause_count-count-requires c = header-fits c.args.deck.now c.requires
-
-pub clause-requires-clause-header : goal.clause-requires-clause-header
-clause-requires-clause-header c = header-fits c.args.deck.now c.requires
-
-pub clause-requires-clause-in_order : goal.clause-requires-clause-in_order
-clause-requires-clause-in_order c = starts-fit c.args.deck.now c.requires
-
-pub clause_length-bytes-requires : goal.clause_length-bytes-requires
-clause_length-bytes-requires c =
-    let ws = c.args.deck.now in
-    (rw c.symbols-symbols.ensures (known-symbols ws c.requires), row-short ws c.requires c.loop-i.i (inside (goal.at.clause_length-bytes-requires c).In-loop-i) _ _ c.symbols-symbols.ensures c.clause.ensures)
-
-pub overflow_add-bytes : goal.overflow_add-bytes
-overflow_add-bytes c = omega (arith, c.loop-i.invariant.1, c.loop-i-test.true, few (goal.at.overflow_add-bytes c).At-loop-i, c.clause_length-bytes.ensures.1)
-
-pub loop-i-preserved : goal.loop-i-preserved
-loop-i-preserved c =
-    let l = c.loop-i in
-    let ws = c.args.deck.now in
-    let k = clause_of ws c.requires l.i (inside (goal.at.loop-i-preserved c).In-loop-i) in
-    let b = row-bytes ws c.requires l.i (inside (goal.at.loop-i-preserved c).In-loop-i) _ _ c.symbols-symbols.ensures c.clause.ensures in (
-      omega (
-        arith,
-        l.invariant.0,
-        b,
-        c.clause_length-bytes.ensures.0,
-        ap length (clauses-next (deck_of ws).clauses l.i k.clause k.place),
-        length-append (clause_text k.clause []) (clauses_text (drop (l.i + 1) (deck_of ws).clauses)),
-      ),
-      omega (arith, l.invariant.1, c.clause_length-bytes.ensures.1),
-    )
+pub sum-requires-clause-fits : goal.sum-requires-clause-fits
+sum-requires-clause-fits c =
+    let h = clause_bytes_at c.args.deck.now.words.now in
+    let n = c.clause_count.result in
+    let t = total (goal.at.sum-requires-clause-fits c).After-clause_count in
+    fits_by_from_yields_list h (range_with_len 0 n) _ _
+    (YieldsList-from_map _ h (YieldsList-from_range 0 n n c.map.ensures.source (omega arith)) c.map.ensures.closure (λ x r q k. search rules))
+    (omega (arith, t.0, t.1))
 
 pub returns : goal.returns
 returns c =
-    let l = c.loop-i in
-    let ws = c.args.deck.now in
-    let past : length (deck_of ws).clauses ≤ l.i = omega (arith, c.loop-i-test.false, c.clause_count-count.ensures, clause-count ws c.requires) in
-    (omega (arith, l.invariant.0, ap length (clauses-end (deck_of ws).clauses l.i past)), omega (arith, l.auto.i-end, l.invariant.1, few (goal.at.returns c).At-loop-i))
+    let h = clause_bytes_at c.args.deck.now.words.now in
+    let n = c.clause_count.result in
+    let t = total (goal.at.returns c).After-clause_count in
+    let s =
+    sum_by_from_yields_List h (range_with_len 0 n) _ _ c.sum.ensures.ran
+    (YieldsList-from_map _ h (YieldsList-from_range 0 n n c.map.ensures.source (omega arith)) c.map.ensures.closure (λ x r q k. search rules))
+    in
+    (s ∙ t.0, omega (arith, s, t.0, t.1))

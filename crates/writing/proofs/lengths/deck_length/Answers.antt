@@ -6,18 +6,12 @@ use lib.ListN.{length, length-append}
 use Rattle.text_rules.specs.TextWriter.{symbols_text, clauses_text}
 use Rattle.writing.specs.Writes.{deck_of}
 use Rattle.writing.proofs.TextParts.{deck-parts}
-use Rattle.writing.proofs.DeckLaws.{header-fits, few-symbols, same-symbols}
+use Rattle.writing.proofs.DeckLaws.{same-symbols}
 use Rattle.writing.proofs.lengths.deck_length.Goals as goal
-
-pub symbols-requires : goal.symbols-requires
-symbols-requires c = header-fits c.args.deck.now c.requires
-
-pub symbols_length-requires : goal.symbols_length-requires
-symbols_length-requires c = rw c.symbols.ensures (few-symbols c.args.deck.now c.requires)
 
 pub returns : goal.returns
 returns c =
-    let ws = c.args.deck.now in
+    let ws = c.args.deck.now.words.now in
     let d = deck_of ws in
-    let r = rw (c.symbols.ensures, ← same-symbols ws c.requires) at c.symbols_length.ensures.0 in
+    let r = rw (← same-symbols ws c.args.deck.now.opens) at c.symbols_length.ensures.0 in
     omega (arith, r, c.clauses_length.ensures.0, ap length (deck-parts d), length-append (symbols_text 0 d.symbols []) (clauses_text d.clauses))

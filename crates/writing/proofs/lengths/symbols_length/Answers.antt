@@ -1,31 +1,51 @@
--- The invariant: the length of the lines of the symbols from n on is still to be added.
-use Prim.Native.Nat.{◌+◌}
-use mathlib.Core.Path.{ap}
+-- The sum of the lines' lengths.
+use Prim.Native.Nat.{◌≤◌}
+use mathlib.Core.Path.{◌≡◌, ap, ◌∙◌}
 use mathlib.Core.List.{[]}
 use native.Mathlib.Omega.{arith}
-use lib.ListN.{length, get_or, drop, length-append}
-use Rattle.text_rules.specs.TextWriter.{symbol_text, symbols_text}
-use Rattle.deck.specs.Kinds.{symbol_of, symbols_of}
-use Rattle.writing.proofs.TextParts.{symbols-next, symbols-end}
+use lib.ListN.{length}
+use Rattle.std.specs.Prelude.{sum_by}
+use Rattle.std.specs.List.{range_with_len}
+use Rattle.std.proofs.Common.{rules}
+use Rattle.std.proofs.lemmas.Iterator.{YieldsList-from_range, YieldsList-from_map, serves_from_Range}
+use Rattle.std.proofs.lemmas.Iterator.Consumers.{sum_by_from_yields_List, fits_by_from_yields_list}
+use Rattle.text_rules.specs.TextWriter.{symbols_text}
+use Rattle.writing.specs.Writes.{symbols_in}
+use Rattle.writing.specs.Lengths.{symbol_bytes_at}
+use Rattle.writing.proofs.DeckLaws.{few-symbols, symbols-sum}
 use Rattle.writing.proofs.lengths.symbols_length.Goals as goal
+use Rattle.writing.proofs.lengths.symbols_length.Goals.{After-symbols}
 
-pub loop-n-preserved : goal.loop-n-preserved
-loop-n-preserved c =
-    let l = c.loop-n in
-    let ws = c.args.symbols.now in (
-      omega (
-        arith,
-        l.invariant.0,
-        c.symbol_length-bytes.ensures.0,
-        ap length (symbols-next ws l.n c.loop-n-test.true),
-        length-append (symbol_text (symbol_of (get_or ws l.n 0)) l.n []) (symbols_text (l.n + 1) (symbols_of (drop (l.n + 1) ws)) []),
-      ),
-      omega (arith, l.invariant.1, c.symbol_length-bytes.ensures.1),
-    )
+-- What the sum is, and that it is small.
+total :
+    (c : After-symbols) → let text = length (symbols_text 0 (symbols_in c.args.deck.now.words.now) []) in
+    (sum_by (symbol_bytes_at c.args.deck.now.words.now) (range_with_len 0 (length c.symbols.result.now)) ≡ text) × (text ≤ 69632)
+total c =
+    let ws = c.args.deck.now.words.now in
+    let k = c.args.deck.now.opens in
+    let e = ap length c.symbols.ensures in
+    let s = symbols-sum ws k (length c.symbols.result.now) 0 (omega (arith, e)) in
+    (s.0, omega (arith, s.1, e, few-symbols ws k))
+
+pub sum-requires-clause-can : goal.sum-requires-clause-can
+sum-requires-clause-can c = (tt, serves_from_Range (λ x q k. search rules) (λ x l u. search (rules, arith, c.map.ensures.source)))
+
+pub sum-requires-clause-fits : goal.sum-requires-clause-fits
+sum-requires-clause-fits c =
+    let h = symbol_bytes_at c.args.deck.now.words.now in
+    let n = length c.symbols.result.now in
+    let t = total (goal.at.sum-requires-clause-fits c).After-symbols in
+    fits_by_from_yields_list h (range_with_len 0 n) _ _
+    (YieldsList-from_map _ h (YieldsList-from_range 0 n n c.map.ensures.source (omega arith)) c.map.ensures.closure (λ x r q k. search rules))
+    (omega (arith, t.0, t.1))
 
 pub returns : goal.returns
 returns c =
-    let l = c.loop-n in (
-      omega (arith, l.invariant.0, ap length (symbols-end c.args.symbols.now l.n c.loop-n-test.false)),
-      omega (arith, l.auto.n-end, l.invariant.1, c.requires),
-    )
+    let h = symbol_bytes_at c.args.deck.now.words.now in
+    let n = length c.symbols.result.now in
+    let t = total (goal.at.returns c).After-symbols in
+    let s =
+    sum_by_from_yields_List h (range_with_len 0 n) _ _ c.sum.ensures.ran
+    (YieldsList-from_map _ h (YieldsList-from_range 0 n n c.map.ensures.source (omega arith)) c.map.ensures.closure (λ x r q k. search rules))
+    in
+    (s ∙ t.0, omega (arith, s, t.0, t.1))

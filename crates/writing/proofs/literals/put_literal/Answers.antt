@@ -14,18 +14,18 @@ next-cell-requires c = literal-inside _ _ c.requires.0 c.requires.1 c.requires.2
 pub put-requires : goal.put-requires
 put-requires c =
     let r = c.requires in
-    let h = negative-here _ _ _ c.next-cell.ensures r.0 r.1 r.2 c.if-cell-ge16384.true in
+    let h = negative-here _ _ _ c.next-cell.ensures r.0 r.1 r.2 c.if-cell-ge-NEGATED.true in
     left-room (126 ∷ []) _ (all_left c.args.out.now h.text) r.3
 
 pub put_applied-requires : goal.put_applied-requires
 put_applied-requires c =
     let r = c.requires in
-    let h = negative-here _ _ _ c.next-cell.ensures r.0 r.1 r.2 c.if-cell-ge16384.true in
+    let h = negative-here _ _ _ c.next-cell.ensures r.0 r.1 r.2 c.if-cell-ge-NEGATED.true in
     (h.terms, h.atom, rest-room (put_some (all_left c.args.out.now h.text) c.put.ensures) r.3)
 
-pub returns-then-cell-ge16384 : goal.returns-then-cell-ge16384
-returns-then-cell-ge16384 c = λ l ls a.
-    let h = negative-here _ _ _ c.next-cell.ensures l ls a c.if-cell-ge16384.true in
+pub returns-then-cell-ge-NEGATED : goal.returns-then-cell-ge-NEGATED
+returns-then-cell-ge-NEGATED c = λ l ls a.
+    let h = negative-here _ _ _ c.next-cell.ensures l ls a c.if-cell-ge-NEGATED.true in
     let w = c.put_applied.ensures h.terms h.atom in
     record {
       adds = put_last (put_some (all_left c.args.out.now h.text) c.put.ensures) w.adds;
@@ -36,12 +36,12 @@ returns-then-cell-ge16384 c = λ l ls a.
 pub put_applied-requires-2 : goal.put_applied-requires-2
 put_applied-requires-2 c =
     let r = c.requires in
-    let h = positive-here _ _ _ c.next-cell.ensures r.0 r.1 r.2 c.if-cell-ge16384.false in
+    let h = positive-here _ _ _ c.next-cell.ensures r.0 r.1 r.2 c.if-cell-ge-NEGATED.false in
     (h.terms, h.atom, rw h.text at r.3)
 
 pub returns : goal.returns
 returns c = λ l ls a.
-    let h = positive-here _ _ _ c.next-cell.ensures l ls a c.if-cell-ge16384.false in
+    let h = positive-here _ _ _ c.next-cell.ensures l ls a c.if-cell-ge-NEGATED.false in
     let w = c.put_applied-2.ensures h.terms h.atom in
     record {
       adds = rw h.text w.adds;

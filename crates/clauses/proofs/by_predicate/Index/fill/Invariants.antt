@@ -10,5 +10,5 @@ abbrev pub invariant-loop-i : goal.invariant-loop-i
 invariant-loop-i l = record {
   firsts : length l.self.first ≡ 4096;
   nexts : length l.self.next ≡ 8192;
-  partly : (d : Deck) → open_deck l.deck ≡ accepted d → Partly d.clauses l.i l.self;
+  partly : (d : Deck) → open_deck l.deck.words.now ≡ accepted d → Partly d.clauses l.i l.self;
 }

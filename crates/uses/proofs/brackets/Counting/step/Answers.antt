@@ -15,4 +15,4 @@ pub returns-in-44 : goal.returns-in-44
 returns-in-44 c = λ all at to t ts k l C. c.separated.ensures all at to t ts (k ∙ mark-comma c.args.byte c.in-44.is) l C
 
 pub returns-in_default : goal.returns-in_default
-returns-in_default c = λ all at to t ts k l C. other-token all at to _ _ _ _ _ t ts (k ∙ mark-none c.args.byte (λ q. omega arith) (λ q. omega arith) (λ q. omega arith)) l C
+returns-in_default c = λ all at to t ts k l C. other-token all at to _ _ _ _ t ts (k ∙ mark-none c.args.byte (λ q. omega arith) (λ q. omega arith) (λ q. omega arith)) l C
