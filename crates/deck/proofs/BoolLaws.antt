@@ -24,11 +24,6 @@ eqb_same a b c d f g = go (ℕ_discrete a b)
     go (yes e) = rw (eq-eqb a b e, eq-eqb c d (f e))
     go (no n) = rw (ne_eqb a b n, ne_eqb c d (λ e. n (g e)))
 
--- A test that cannot be true is false.
-pub refuted : (b : Bool) → (b ≡ true → ⊥) → b ≡ false
-refuted true h = absurd (h refl)
-refuted false h = refl
-
 -- A list is read if each element is.
 pub found-next : {A : Type 0} (o : Option A) (os : Option (List A)) → found (read_next o os) ≡ found o && found os
 unfolding read_next found

@@ -4,11 +4,13 @@ ghost use Rattle.std.specs.List.{list_all};
 ghost use Rattle.rules.specs.Decks.{read_symbol};
 ghost use Rattle.deck.specs.Answers.{found};
 
-// Whether each word is a symbol's.
+// Whether each word is a symbol's. By `fold`, so that many are tested at a time: `all` would ask after each one.
 pub fn fit(words: &[u16]) -> bool
     ensures { result ≡ list_all (λ word. found (read_symbol word)) words.now }
 {
-    words.iter().all(|word| is_symbol(*word))
+    words
+        .iter()
+        .fold(true, |fits, word| fits & is_symbol(*word))
 }
 
 // The arity, 0 to 15, plus 256 for a predicate.

@@ -9,8 +9,6 @@ use lib.Dec.{eqb, eqb-suc-zero, leb}
 use borrow.Author.Tests.{eqb-true, eqb-false, leb-true, leb-false}
 use lib.Seq.{get_or-set_same}
 use Rattle.std.proofs.lemmas.List.{get_or-set_other}
-use Rattle.deck.specs.Kinds.{symbols_of}
-use Rattle.drill.specs.declared.table.Row.{Row}
 use Rattle.rules.specs.Syntax.{Symbol}
 use Rattle.rules.specs.Drill.{fillings}
 use Rattle.drill.specs.Successors.{nonempty, Known, AllKnown}
@@ -75,24 +73,24 @@ module _ {S : List Symbol} {m : ℕ} {row : List Bool} {n : ℕ} (f : Filled S m
           go false q = f.at k (omega (arith, leb-false n k q))
 
 -- The rows of the table: all that of no cells at first, and then one more.
-pub rows-first : (r : Row) (ws : List ℕ) → r.symbols.now ≡ ws → r.m ≡ 0 → AllKnown (symbols_of ws) (replicate 8 r.fillable) 1
-rows-first r ws s e = record { size = refl; at = first }
+pub rows-first : (S : List Symbol) (row : List Bool) → Known S 0 row → AllKnown S (replicate 8 row) 1
+rows-first S row r = record { size = refl; at = first }
   where
-    first : (m : ℕ) → m < 1 → Known (symbols_of ws) m (get_or (replicate 8 r.fillable) m [])
-    first zero h = rw (← s, ← e) r.known
+    first : (m : ℕ) → m < 1 → Known S m (get_or (replicate 8 row) m [])
+    first zero h = r
     first (suc m) h = absurd (omega arith)
 
-pub rows_more : {ws : List ℕ} {rows : List (List Bool)} {m : ℕ} → AllKnown (symbols_of ws) rows m → (r : Row) → r.symbols.now ≡ ws → r.m ≡ m → m < 8
-    → AllKnown (symbols_of ws) (set rows m r.fillable) (m + 1)
-rows_more {ws} {rows} {m} a r s e h = record { size = length-set rows m r.fillable ∙ a.size; at = entry }
+pub rows_more : {S : List Symbol} {rows : List (List Bool)} {m : ℕ} → AllKnown S rows (m + 1) → (row : List Bool) → Known S (m + 1) row → m < 7
+    → AllKnown S (set rows (m + 1) row) (m + 1 + 1)
+rows_more {S} {rows} {m} a row r h = record { size = length-set rows (m + 1) row ∙ a.size; at = entry }
   where
-    entry : (k : ℕ) → k < m + 1 → Known (symbols_of ws) k (get_or (set rows m r.fillable) k [])
-    entry k l = go (eqb k m) refl
+    entry : (k : ℕ) → k < m + 1 + 1 → Known S k (get_or (set rows (m + 1) row) k [])
+    entry k l = go (eqb k (m + 1)) refl
       where
-        go : (same : Bool) → eqb k m ≡ same → Known (symbols_of ws) k (get_or (set rows m r.fillable) k [])
+        go : (same : Bool) → eqb k (m + 1) ≡ same → Known S k (get_or (set rows (m + 1) row) k [])
         go true q =
-            let at : k ≡ m = eqb-true k m q in
-            rw (at, get_or-set_same rows m r.fillable [] (omega (arith, a.size)), ← s, ← e) r.known
+            let at : k ≡ m + 1 = eqb-true k (m + 1) q in
+            rw (at, get_or-set_same rows (m + 1) row [] (omega (arith, a.size))) r
         go false q =
-            let other = eqb-false k m q in
-            rw (get_or-set_other rows m k r.fillable [] (omega (arith, other))) (a.at k (omega (arith, other)))
+            let other = eqb-false k (m + 1) q in
+            rw (get_or-set_other rows (m + 1) k row [] (omega (arith, other))) (a.at k (omega (arith, other)))

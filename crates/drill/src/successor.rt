@@ -8,7 +8,7 @@ ghost use Rattle.deck.specs.Kinds.{symbols_of};
 ghost use Rattle.drill.specs.Successors.{arity_at, fills, nonempty, Heads, AllKnown, Sought, Advanced, rest_after};
 ghost use Rattle.drill.specs.Holding.{Least, Holds, Begins, cells_of};
 
-use crate::table::Row;
+use crate::table::{Row, first_row};
 use crate::term::Term;
 
 // A deck's symbols, with the table of what they can fill.
@@ -25,29 +25,29 @@ impl<'a> Functors<'a> {
         requires { length symbols.now ≤ 4096 }
         ensures { result.symbols.now ≡ symbols.now }
     {
-        let mut row = Row::first(symbols);
-        let cells = row.fillable;
-        let mut fillable = [cells; 8];
-        for m in 1..8 {
-            row = row.next();
-            let cells = row.fillable;
-            fillable[m] = cells;
+        let mut fillable = [first_row(); 8];
+        for m in 0..7 {
+            let row = Row {
+                symbols,
+                m,
+                fillable: &fillable[m],
+            };
+            fillable[m + 1] = row.next();
         }
         Functors { symbols, fillable }
     }
 
     // The row of m cells.
-    fn row(&self, m: usize) -> Row<'a>
+    fn row(&self, m: usize) -> Row<'_>
         requires { m < 8 }
         ensures symbols { result.symbols.now ≡ self.now.symbols.now }
         ensures cells { result.m ≡ m }
     {
-        let symbols = self.symbols;
-        let fillable = self.fillable[m];
+        let rows = &self.fillable;
         Row {
-            symbols,
+            symbols: self.symbols,
             m,
-            fillable,
+            fillable: &rows[m],
         }
     }
 

@@ -24,9 +24,9 @@ pub enum Place {
 impl Place {
     ghost use Rattle.std.specs.Prelude.{◌≡◌, List};
     ghost use Rattle.text_rules.specs.TextTokens.{Token as Read};
-    ghost use Rattle.text_rules.specs.TextWords.{entries};
+    ghost use Rattle.text_rules.specs.TextWords.{Use, entries, entry_after};
     ghost use Rattle.text.specs.Kinds.{kind_of};
-    ghost use Rattle.encoding.specs.Walk.{kind_before};
+    ghost use Rattle.encoding.specs.Walk.{kind_before, IsEntry};
 
     // The place after a token of that kind.
     fn after(kind: Kind) -> Place
@@ -36,6 +36,18 @@ impl Place {
             Kind::Dot => Place::Beginning,
             Kind::Tilde => Place::Negation,
             _ => Place::Inside,
+        }
+    }
+
+    // The entry that a name at this place is.
+    #[tactic(auto, unfolding(text_rules::specs::TextWords::entry_after))]
+    fn entry(self, name: &[u8]) -> Entry<'_>
+        ensures { (u : Use) → u.name ≡ name.now → IsEntry result (entry_after (kind_before self) u) }
+    {
+        match self {
+            Place::Beginning => Entry::Head(name),
+            Place::Negation => Entry::Negated(name),
+            Place::Inside => Entry::Symbol(name),
         }
     }
 }
@@ -78,11 +90,9 @@ impl<'a> Entries<'a> {
         ensures { Gives result (entries_left self.now) (entries (kind_of t.kind) (tokens 0 (drop t.to self.now.text.now))) }
     {
         let name = &self.text[t.from..t.to];
-        match (t.kind, self.place) {
-            (Kind::Variable(v), _) => Some(Entry::Variable(v)),
-            (Kind::Name, Place::Beginning) => Some(Entry::Head(name)),
-            (Kind::Name, Place::Negation) => Some(Entry::Negated(name)),
-            (Kind::Name, Place::Inside) => Some(Entry::Symbol(name)),
+        match t.kind {
+            Kind::Variable(v) => Some(Entry::Variable(v)),
+            Kind::Name => Some(self.place.entry(name)),
             _ => None,
         }
     }

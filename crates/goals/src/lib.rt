@@ -19,7 +19,10 @@ pub enum Mark {
     Deep,
 }
 
-// What a mark adds to a goal's word 0. The crate stored, which reads marks by the same 4096, does not stand on this one.
+// A goal's first word is its number of words plus its mark times this. The crate stored, which reads marks too, does not stand on this one.
+pub const MARK: u16 = 4096;
+
+// What a mark adds to a goal's word 0.
 impl From<Mark> for u16 {
     ghost use Rattle.std.specs.Prelude.{◌≡◌, ◌*◌};
     ghost use Rattle.rules.specs.Goals.{mark_number};
@@ -30,10 +33,10 @@ impl From<Mark> for u16 {
     #[tactic(auto, unfolding(rules::specs::Goals::mark_number))]
     fn from(mark: Mark) -> u16 {
         match mark {
-            Mark::Floundered => 4096,
-            Mark::Undecided => 8192,
-            Mark::Oversized => 12288,
-            Mark::Deep => 16384,
+            Mark::Floundered => MARK,
+            Mark::Undecided => 2 * MARK,
+            Mark::Oversized => 3 * MARK,
+            Mark::Deep => 4 * MARK,
         }
     }
 }

@@ -18,7 +18,7 @@ fn fits(bytes: &[u8]) -> bool
     bytes.len().is_multiple_of(2) && bytes.len() <= 32768
 }
 
-// Stores the words of bytes, low byte first, at the start of `words`, and returns their number.
+// Stores the words of bytes, low byte first, at the start of `words`, and returns their number (a): this public function promises it.
 pub fn read_words(bytes: &[u8], words: &mut [u16]) -> usize
     requires { length bytes.now / 2 ≤ length words.old }
     ensures { Put words.old 0 (words_from bytes.now) result words.new }

@@ -15,7 +15,8 @@ use Rattle.rules.specs.Unification.{Substitution, apply, applys}
 use Rattle.rules.proofs.TermLaws.{applys-nil, size-pos, occ-same, occ-other}
 use Rattle.matching.specs.Taking.{take_t}
 use Rattle.matching.specs.Cells.{args_of, from, Next}
-use Rattle.matching.specs.Bindings.{elims, value, seen, Resolved, State, Checking, Occurs, stamped}
+use Rattle.std.specs.Prelude.{None}
+use Rattle.matching.specs.Bindings.{Places, elims, value, seen, Resolved, State, Checking, Occurs, stamped}
 use Rattle.matching.proofs.CellLaws.{term_at-var}
 use Rattle.matching.proofs.SeenLaws.{first_of, open-var, open-functor, resolved-bound}
 
@@ -32,7 +33,7 @@ occurs-none v es zero ts e = occurs-not (rw applys-nil)
 occurs-none v es (suc k) ts e = absurd (omega arith)
 
 -- 2. One term, by what stands at the place that it resolves to.
-module _ {ar cells bs trail marks : List ℕ} {n v : ℕ} (c : Checking ar cells bs trail n v marks) {p at : ℕ} (r : Resolved ar cells bs trail n p at) where
+module _ {ar cells : List ℕ} {bs : Places} {trail marks : List ℕ} {n v : ℕ} (c : Checking ar cells bs trail n v marks) {p at : ℕ} (r : Resolved ar cells bs trail n p at) where
   occurs-variable : 32768 ≤ get_or cells at 0 → get_or cells at 0 - 32768 ≡ v → Occurs (occ v (value ar cells bs trail n p)) true
   occurs-variable l e = occurs-yes (omega (arith, ap (occ v) (sym r.same ∙ open-var c.state.good r.final l), ap (λ w. occ v (var w)) e, occ-same v))
 
@@ -58,7 +59,7 @@ module _ {ar cells bs trail marks : List ℕ} {n v : ℕ} (c : Checking ar cells
     args-smaller = omega (arith, ap size by_args)
 
 -- 3. The first of the k terms at p, and the others.
-module _ {ar cells bs trail marks : List ℕ} {n v : ℕ} (c : Checking ar cells bs trail n v marks) (p k : ℕ) (pos : k ≡ 0 → ⊥) (le : k ≤ count (from ar cells p)) where
+module _ {ar cells : List ℕ} {bs : Places} {trail marks : List ℕ} {n v : ℕ} (c : Checking ar cells bs trail n v marks) (p k : ℕ) (pos : k ≡ 0 → ⊥) (le : k ≤ count (from ar cells p)) where
   pub any-first : Occurs (occ v (value ar cells bs trail n p)) true → Occurs (occs v (seen ar cells bs trail n p k)) true
   any-first o = occurs-yes (rw (first_of ar cells p k pos le (elims ar cells bs trail n)) (omega (arith, o.if-so refl)))
 
@@ -79,7 +80,7 @@ pub occurs-by : {k : ℕ} {b b' : Bool} → Occurs k b → b ≡ b' → Occurs k
 occurs-by o e = rw e at o
 
 -- 4. Marks.
-module _ {ar cells bs trail marks : List ℕ} {n : ℕ} where
+module _ {ar cells : List ℕ} {bs : Places} {trail marks : List ℕ} {n : ℕ} where
   pub checking-start : (v : ℕ) → State ar cells bs trail marks n n → Checking ar cells bs trail n v marks
   checking-start v s = record {
     state = record { good = s.good; wide = s.wide; low = λ w. omega (arith, s.low w); bound = s.bound };
@@ -110,9 +111,9 @@ module _ {ar cells bs trail marks : List ℕ} {n : ℕ} where
         low' : (w : ℕ) → get_or (set marks u (n + 1)) w 0 ≤ n + 1
         low' w = elim (ℕ_discrete w u) [ yes e ↦ omega (arith, here e) | no q ↦ omega (arith, there q, c.state.low w) ]
 
-        bound' : (w : ℕ) → (get_or (set marks u (n + 1)) w 0 ≡ 0 → ⊥) → (w < length bs) × (get_or bs w 0 ≡ 65535 → ⊥)
+        bound' : (w : ℕ) → (get_or (set marks u (n + 1)) w 0 ≡ 0 → ⊥) → get_or bs w None ≡ None → ⊥
         bound' w h = elim (ℕ_discrete w u) [
-          | yes e ↦ rw (e, ← eu) (c.state.good.named p inside l, resolved-bound c.state.good inside l r f)
+          | yes e ↦ rw (e, ← eu) (resolved-bound c.state.good inside l r f)
           | no q ↦ c.state.bound w (λ z. h (there q ∙ z))
         ]
 

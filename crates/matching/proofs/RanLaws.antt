@@ -6,17 +6,16 @@ use Prim.Native.Nat.{ℕ, zero, suc, ◌+◌, ◌-◌, ◌*◌, ◌≤◌, ◌<�
 use native.Mathlib.Decide.{ℕ_discrete, dec_lt}
 use native.Mathlib.Omega.{arith}
 use lib.ListN.{get_or}
-use Rattle.std.specs.Prelude.{Ok, Err}
 use Rattle.rules.specs.Terms.{Term, Terms, var, app, nil, cons, occ, occs, count}
 use Rattle.rules.specs.Unification.{Substitution, done, bind, applys, Unification, fails, spent, solved, tick, bound, unify, equations}
 use Rattle.rules.proofs.TermLaws.{join, ite-yes, ite-no, occ-other, join-nil, applys-count, applys-nil, applys-join, substitutions-done, substitutions-assoc}
 use Rattle.rules.proofs.UnifyLaws.{Found, unify-found, unify-none, unify-same, unify-var, unify-left, unify-left-fails, unify-right, unify-right-fails, unify-args, unify-differ, after, then, unify-join, taken-tick, taken-cons}
 use Rattle.matching.specs.Taking.{take_t}
 use Rattle.matching.specs.Cells.{args_of, from, others, Next}
-use Rattle.matching.specs.Bindings.{elims_after, elims, value, alone, seen, State, Paired}
-use Rattle.matching.specs.Outcomes.{eliminated, Unified, Tells, Ran, Is, Ended}
-use Rattle.matching.specs.declared.unify.Failure.{Failure}
-use Rattle.matching.specs.declared.unify.Failure.TheVariants.{Failed, Broken}
+use Rattle.matching.specs.Bindings.{Places, elims_after, elims, value, alone, seen, State, Paired}
+use Rattle.matching.specs.Outcomes.{eliminated, Tells, Ran, Is, Ended}
+use Rattle.matching.specs.declared.unify.Outcome.{Outcome}
+use Rattle.matching.specs.declared.unify.Outcome.TheVariants.{Unified, Failed, Broken}
 use Rattle.matching.proofs.TakeLaws.{count-take}
 use Rattle.matching.proofs.SeenLaws.{Opened, open-var, open-functor, args-enough}
 use Rattle.matching.proofs.BindLaws.{state-trailed}
@@ -55,7 +54,7 @@ alone-right f y us = cases (ℕ_discrete (occs y us) 0)
 abbrev one : Term → Term → Unification
 one t u = unify (cons t nil) (cons u nil)
 
-module _ {ar cells bs trail marks : List ℕ} {n a b : ℕ} (u : Paired ar cells bs trail marks n a b) where
+module _ {ar cells : List ℕ} {bs : Places} {trail marks : List ℕ} {n a b : ℕ} (u : Paired ar cells bs trail marks n a b) where
   pub pair-args : (k : ℕ) → k ≡ args_of ar (get_or cells a 0) → get_or cells a 0 < 32768 → get_or cells b 0 < 32768 → get_or cells a 0 ≡ get_or cells b 0 → unify (alone ar cells bs trail n a) (alone ar cells bs trail n b) ≡ tick (unify (seen ar cells bs trail n (a + 1) k) (seen ar cells bs trail n (b + 1) k))
   pair-args k e la lb q =
       ap₂ one (open-functor u.state.good k e u.left la) (open-functor u.state.good k e' u.right lb)
@@ -109,37 +108,37 @@ module _ {ar cells bs trail marks : List ℕ} {n a b : ℕ} (u : Paired ar cells
 
 -- 2. What it leaves.
 
-tells-tick : (o : Unification) → Found o → (left : ℕ) (before now' : Substitution) (r : Unified) → Tells o (left - 1) before now' r → (left ≡ 0 → ⊥) → Tells (tick o) left before now' r
-tells-tick o f left before now' (Ok l) w z = (suc w.0, w.1, ap tick w.2, w.3, omega (arith, w.4))
-tells-tick o f left before now' (Err (Failed l)) w z = (suc w.0, ap tick w.1, omega (arith, w.2))
-tells-tick o f left before now' (Err Broken) w z = omega (arith, w, taken-tick o f)
+tells-tick : (o : Unification) → Found o → (left : ℕ) (before now' : Substitution) (r : Outcome) → Tells o (left - 1) before now' r → (left ≡ 0 → ⊥) → Tells (tick o) left before now' r
+tells-tick o f left before now' (Unified l) w z = (suc w.0, w.1, ap tick w.2, w.3, omega (arith, w.4))
+tells-tick o f left before now' (Failed l) w z = (suc w.0, ap tick w.1, omega (arith, w.2))
+tells-tick o f left before now' Broken w z = omega (arith, w, taken-tick o f)
 
-module _ {ar cells bs trail : List ℕ} {n left : ℕ} where
-  pub ran-by : {o o' : Unification} {bs' trail' marks' : List ℕ} {n' : ℕ} {r : Unified} → Ran ar cells bs trail n o left bs' trail' marks' n' r → o' ≡ o → Ran ar cells bs trail n o' left bs' trail' marks' n' r
+module _ {ar cells : List ℕ} {bs : Places} {trail : List ℕ} {n left : ℕ} where
+  pub ran-by : {o o' : Unification} {bs' : Places} {trail' marks' : List ℕ} {n' : ℕ} {r : Outcome} → Ran ar cells bs trail n o left bs' trail' marks' n' r → o' ≡ o → Ran ar cells bs trail n o' left bs' trail' marks' n' r
   ran-by {bs' = bs'} {trail'} {marks'} {n'} {r} w e = subst (λ x. Ran ar cells bs trail n x left bs' trail' marks' n' r) (sym e) w
 
   -- one equation and none after it
-  pub ran-one : {o o' : Unification} {bs' trail' marks' : List ℕ} {n' : ℕ} {r : Unified} → Ran ar cells bs trail n o (suc (left - 1)) bs' trail' marks' n' r → (left ≡ 0 → ⊥) → o' ≡ o → Ran ar cells bs trail n o' left bs' trail' marks' n' r
+  pub ran-one : {o o' : Unification} {bs' : Places} {trail' marks' : List ℕ} {n' : ℕ} {r : Outcome} → Ran ar cells bs trail n o (suc (left - 1)) bs' trail' marks' n' r → (left ≡ 0 → ⊥) → o' ≡ o → Ran ar cells bs trail n o' left bs' trail' marks' n' r
   ran-one {o} {bs' = bs'} {trail'} {marks'} {n'} {r} w z e =
       let q : suc (left - 1) ≡ left = omega arith in
       ran-by (subst (λ x. Ran ar cells bs trail n o x bs' trail' marks' n' r) q w) e
 
-  pub ran-tick : (ts us : Terms) {o' : Unification} {bs' trail' marks' : List ℕ} {n' : ℕ} {r : Unified} → Ran ar cells bs trail n (unify ts us) (left - 1) bs' trail' marks' n' r → (left ≡ 0 → ⊥) → o' ≡ tick (unify ts us) → Ran ar cells bs trail n o' left bs' trail' marks' n' r
+  pub ran-tick : (ts us : Terms) {o' : Unification} {bs' : Places} {trail' marks' : List ℕ} {n' : ℕ} {r : Outcome} → Ran ar cells bs trail n (unify ts us) (left - 1) bs' trail' marks' n' r → (left ≡ 0 → ⊥) → o' ≡ tick (unify ts us) → Ran ar cells bs trail n o' left bs' trail' marks' n' r
   ran-tick ts us {bs' = bs'} {trail'} {n' = n'} {r = r} w z e =
       ran-by (record { state = w.state; tells = tells-tick (unify ts us) (unify-found ts us) left (elims ar cells bs trail n) (elims ar cells bs' trail' n') r w.tells z }) e
 
-  pub ran-none : {marks : List ℕ} {o : Unification} (k l : ℕ) → State ar cells bs trail marks n n → k + l ≡ left → o ≡ solved k done → Ran ar cells bs trail n o left bs trail marks n (Ok l)
+  pub ran-none : {marks : List ℕ} {o : Unification} (k l : ℕ) → State ar cells bs trail marks n n → k + l ≡ left → o ≡ solved k done → Ran ar cells bs trail n o left bs trail marks n (Unified l)
   ran-none k l s q e = record { state = s; tells = (k, done, e, sym (substitutions-done (elims ar cells bs trail n)), q) }
 
-  pub ran-fails : {marks : List ℕ} {o : Unification} (k l : ℕ) → State ar cells bs trail marks n n → k + l ≡ left → o ≡ fails k → Ran ar cells bs trail n o left bs trail marks n (Err (Failed l))
+  pub ran-fails : {marks : List ℕ} {o : Unification} (k l : ℕ) → State ar cells bs trail marks n n → k + l ≡ left → o ≡ fails k → Ran ar cells bs trail n o left bs trail marks n (Failed l)
   ran-fails k l s q e = record { state = record { good = s.good; wide = s.wide; low = λ w. omega (arith, s.low w); bound = s.bound }; tells = (k, e, q) }
 
-module _ {ar cells bs trail marks : List ℕ} {n a b left : ℕ} (u : Paired ar cells bs trail marks n a b) where
+module _ {ar cells : List ℕ} {bs : Places} {trail marks : List ℕ} {n a b left : ℕ} (u : Paired ar cells bs trail marks n a b) where
   -- an equation that is not taken
-  pub ran_out : left ≡ 0 → Ran ar cells bs trail n (unify (alone ar cells bs trail n a) (alone ar cells bs trail n b)) left bs trail marks n (Err Broken)
+  pub ran_out : left ≡ 0 → Ran ar cells bs trail n (unify (alone ar cells bs trail n a) (alone ar cells bs trail n b)) left bs trail marks n Broken
   ran_out z = record { state = u.state; tells = omega (arith, taken-cons (value ar cells bs trail n a) (value ar cells bs trail n b) nil nil) }
 
-  pub ran-args : (k : ℕ) → k ≡ args_of ar (get_or cells a 0) → get_or cells a 0 < 32768 → get_or cells b 0 < 32768 → get_or cells a 0 ≡ get_or cells b 0 → {bs' trail' marks' : List ℕ} {n' : ℕ} {r : Unified} → Ran ar cells bs trail n (unify (seen ar cells bs trail n (a + 1) k) (seen ar cells bs trail n (b + 1) k)) (left - 1) bs' trail' marks' n' r → (left ≡ 0 → ⊥) → Ran ar cells bs trail n (unify (alone ar cells bs trail n a) (alone ar cells bs trail n b)) left bs' trail' marks' n' r
+  pub ran-args : (k : ℕ) → k ≡ args_of ar (get_or cells a 0) → get_or cells a 0 < 32768 → get_or cells b 0 < 32768 → get_or cells a 0 ≡ get_or cells b 0 → {bs' : Places} {trail' marks' : List ℕ} {n' : ℕ} {r : Outcome} → Ran ar cells bs trail n (unify (seen ar cells bs trail n (a + 1) k) (seen ar cells bs trail n (b + 1) k)) (left - 1) bs' trail' marks' n' r → (left ≡ 0 → ⊥) → Ran ar cells bs trail n (unify (alone ar cells bs trail n a) (alone ar cells bs trail n b)) left bs' trail' marks' n' r
   ran-args k e la lb q w z = ran-tick (seen ar cells bs trail n (a + 1) k) (seen ar cells bs trail n (b + 1) k) w z (pair-args u k e la lb q)
 
 -- no equation
@@ -159,12 +158,12 @@ taken_then (fails k) l r f = omega arith
 taken_then spent l r f = absurd f
 taken_then (solved k es) l r f = omega (arith, taken-after k es (unify (applys es l) (applys es r)) (unify-found (applys es l) (applys es r)))
 
-tells-after : (k : ℕ) (es : Substitution) (o : Unification) → Found o → (left l : ℕ) → k + l ≡ left → (before mid end : Substitution) (r : Unified) → mid ≡ join before es → Tells o l mid end r → Tells (after k es o) left before end r
-tells-after k es o f left l q before mid end (Ok d) e w = (k + w.0, join es w.1, ap (after k es) w.2, w.3 ∙ ap (λ x. join x w.1) e ∙ substitutions-assoc before es w.1, omega (arith, w.4))
-tells-after k es o f left l q before mid end (Err (Failed d)) e w = (k + w.0, ap (after k es) w.1, omega (arith, w.2))
-tells-after k es o f left l q before mid end (Err Broken) e w = omega (arith, w, taken-after k es o f)
+tells-after : (k : ℕ) (es : Substitution) (o : Unification) → Found o → (left l : ℕ) → k + l ≡ left → (before mid end : Substitution) (r : Outcome) → mid ≡ join before es → Tells o l mid end r → Tells (after k es o) left before end r
+tells-after k es o f left l q before mid end (Unified d) e w = (k + w.0, join es w.1, ap (after k es) w.2, w.3 ∙ ap (λ x. join x w.1) e ∙ substitutions-assoc before es w.1, omega (arith, w.4))
+tells-after k es o f left l q before mid end (Failed d) e w = (k + w.0, ap (after k es) w.1, omega (arith, w.2))
+tells-after k es o f left l q before mid end Broken e w = omega (arith, w, taken-after k es o f)
 
-module _ {ar cells bs trail : List ℕ} {n p q k a b : ℕ} (u : Opened ar cells bs trail n p k a) (v : Opened ar cells bs trail n q k b) where
+module _ {ar cells : List ℕ} {bs : Places} {trail : List ℕ} {n p q k a b : ℕ} (u : Opened ar cells bs trail n p k a) (v : Opened ar cells bs trail n q k b) where
   abbrev ls : Terms
   ls = applys (elims ar cells bs trail n) (others ar cells p k)
 
@@ -177,18 +176,14 @@ module _ {ar cells bs trail : List ℕ} {n p q k a b : ℕ} (u : Opened ar cells
   pub first-fewer : 2 * equations (unify (alone ar cells bs trail n a) (alone ar cells bs trail n b)) < 2 * equations (unify (seen ar cells bs trail n p k) (seen ar cells bs trail n q k)) + 1
   first-fewer = omega (arith, ap equations joined, taken_then (unify (alone ar cells bs trail n a) (alone ar cells bs trail n b)) ls rs (unify-found (alone ar cells bs trail n a) (alone ar cells bs trail n b)))
 
-  ran-stop : {bs₁ trail₁ marks₁ : List ℕ} {m l left : ℕ} → Ran ar cells bs trail n (unify (alone ar cells bs trail n a) (alone ar cells bs trail n b)) left bs₁ trail₁ marks₁ m (Err (Failed l)) → Ran ar cells bs trail n (unify (seen ar cells bs trail n p k) (seen ar cells bs trail n q k)) left bs₁ trail₁ marks₁ m (Err (Failed l))
+  pub ran-stop : {bs₁ : Places} {trail₁ marks₁ : List ℕ} {m l left : ℕ} → Ran ar cells bs trail n (unify (alone ar cells bs trail n a) (alone ar cells bs trail n b)) left bs₁ trail₁ marks₁ m (Failed l) → Ran ar cells bs trail n (unify (seen ar cells bs trail n p k) (seen ar cells bs trail n q k)) left bs₁ trail₁ marks₁ m (Failed l)
   ran-stop w = record { state = w.state; tells = (w.tells.0, joined ∙ ap (λ o. then o ls rs) w.tells.1, w.tells.2) }
 
-  ran-break : {bs₁ trail₁ marks₁ : List ℕ} {m left : ℕ} → Ran ar cells bs trail n (unify (alone ar cells bs trail n a) (alone ar cells bs trail n b)) left bs₁ trail₁ marks₁ m (Err Broken) → Ran ar cells bs trail n (unify (seen ar cells bs trail n p k) (seen ar cells bs trail n q k)) left bs₁ trail₁ marks₁ m (Err Broken)
+  pub ran-break : {bs₁ : Places} {trail₁ marks₁ : List ℕ} {m left : ℕ} → Ran ar cells bs trail n (unify (alone ar cells bs trail n a) (alone ar cells bs trail n b)) left bs₁ trail₁ marks₁ m Broken → Ran ar cells bs trail n (unify (seen ar cells bs trail n p k) (seen ar cells bs trail n q k)) left bs₁ trail₁ marks₁ m Broken
   ran-break w = record { state = w.state; tells = omega (arith, w.tells, first-fewer) }
 
-  pub ran-error : {bs₁ trail₁ marks₁ : List ℕ} {m left : ℕ} (why : Failure) → Ran ar cells bs trail n (unify (alone ar cells bs trail n a) (alone ar cells bs trail n b)) left bs₁ trail₁ marks₁ m (Err why) → Ran ar cells bs trail n (unify (seen ar cells bs trail n p k) (seen ar cells bs trail n q k)) left bs₁ trail₁ marks₁ m (Err why)
-  ran-error (Failed l) w = ran-stop w
-  ran-error Broken w = ran-break w
-
   -- the others, at p' and q', after the eliminations of the first
-  module _ {bs₁ trail₁ marks₁ : List ℕ} {m l left : ℕ} (w : Ran ar cells bs trail n (unify (alone ar cells bs trail n a) (alone ar cells bs trail n b)) left bs₁ trail₁ marks₁ m (Ok l)) {p' q' : ℕ} (s : Next ar cells p k p') (t : Next ar cells q k q') where
+  module _ {bs₁ : Places} {trail₁ marks₁ : List ℕ} {m l left : ℕ} (w : Ran ar cells bs trail n (unify (alone ar cells bs trail n a) (alone ar cells bs trail n b)) left bs₁ trail₁ marks₁ m (Unified l)) {p' q' : ℕ} (s : Next ar cells p k p') (t : Next ar cells q k q') where
     moved : {i i' : ℕ} → Next ar cells i k i' → seen ar cells bs₁ trail₁ m i' (k - 1) ≡ applys w.tells.1 (applys (elims ar cells bs trail n) (others ar cells i k))
     moved {i} x = ap₂ applys w.tells.3 x.same ∙ applys-join (elims ar cells bs trail n) w.tells.1 (others ar cells i k)
 
@@ -208,18 +203,18 @@ module _ {ar cells bs trail : List ℕ} {n p q k a b : ℕ} (u : Opened ar cells
           ap equations w.tells.2,
         )
 
-    pub ran-rest : {bs₂ trail₂ marks₂ : List ℕ} {n' : ℕ} {r : Unified} → Ran ar cells bs₁ trail₁ m (unify (seen ar cells bs₁ trail₁ m p' (k - 1)) (seen ar cells bs₁ trail₁ m q' (k - 1))) l bs₂ trail₂ marks₂ n' r → Ran ar cells bs trail n (unify (seen ar cells bs trail n p k) (seen ar cells bs trail n q k)) left bs₂ trail₂ marks₂ n' r
+    pub ran-rest : {bs₂ : Places} {trail₂ marks₂ : List ℕ} {n' : ℕ} {r : Outcome} → Ran ar cells bs₁ trail₁ m (unify (seen ar cells bs₁ trail₁ m p' (k - 1)) (seen ar cells bs₁ trail₁ m q' (k - 1))) l bs₂ trail₂ marks₂ n' r → Ran ar cells bs trail n (unify (seen ar cells bs trail n p k) (seen ar cells bs trail n q k)) left bs₂ trail₂ marks₂ n' r
     ran-rest {bs₂} {trail₂} {n' = n'} {r = r} z =
         let f = unify-found (seen ar cells bs₁ trail₁ m p' (k - 1)) (seen ar cells bs₁ trail₁ m q' (k - 1)) in
         ran-by (record { state = z.state; tells = tells-after w.tells.0 w.tells.1 o₁ f left l w.tells.4 (elims ar cells bs trail n) (elims ar cells bs₁ trail₁ m) (elims ar cells bs₂ trail₂ n') r w.tells.3 z.tells }) rest
 
 -- 4. From no bindings.
 
-is-told : (o : Unification) (left : ℕ) (es : Substitution) (r : Unified) → Tells o left done es r → Is o left es r
-is-told o left es (Ok l) w = (w.0, w.2 ∙ ap (solved w.0) (sym w.3), w.4)
-is-told o left es (Err (Failed l)) w = w
-is-told o left es (Err Broken) w = w
+is-told : (o : Unification) (left : ℕ) (es : Substitution) (r : Outcome) → Tells o left done es r → Is o left es r
+is-told o left es (Unified l) w = (w.0, w.2 ∙ ap (solved w.0) (sym w.3), w.4)
+is-told o left es (Failed l) w = w
+is-told o left es Broken w = w
 
-pub ran-ended : {ar cells bs trail : List ℕ} (p q k : ℕ) {left : ℕ} {bs' trail' marks' : List ℕ} {n' : ℕ} {r : Unified} → Ran ar cells bs trail 0 (unify (seen ar cells bs trail 0 p k) (seen ar cells bs trail 0 q k)) left bs' trail' marks' n' r → Ended ar cells (unify (take_t k (from ar cells p)) (take_t k (from ar cells q))) left bs' trail' marks' n' r
+pub ran-ended : {ar cells : List ℕ} {bs : Places} {trail : List ℕ} (p q k : ℕ) {left : ℕ} {bs' : Places} {trail' marks' : List ℕ} {n' : ℕ} {r : Outcome} → Ran ar cells bs trail 0 (unify (seen ar cells bs trail 0 p k) (seen ar cells bs trail 0 q k)) left bs' trail' marks' n' r → Ended ar cells (unify (take_t k (from ar cells p)) (take_t k (from ar cells q))) left bs' trail' marks' n' r
 unfolding elims_after
 ran-ended {ar} {cells} p q k {left} {bs'} {trail'} {n' = n'} {r = r} w = record { good = w.state.good; trailed = state-trailed w.state; is = is-told _ left (elims ar cells bs' trail' n') r w.tells }

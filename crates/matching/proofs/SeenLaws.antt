@@ -12,8 +12,10 @@ use Rattle.rules.specs.Unification.{Substitution, apply, applys}
 use Rattle.rules.proofs.TermLaws.{ite-yes, ite-no, applys-cons, apply-app}
 use Rattle.matching.specs.Taking.{take_t}
 use Rattle.matching.specs.Cells.{args_of, from, term_at, others}
-use Rattle.matching.specs.Bindings.{elims, value, seen, later, Good, Free, Final, BoundTo, Resolved}
+use Rattle.std.specs.Prelude.{Some, None}
+use Rattle.matching.specs.Bindings.{Places, elims, value, seen, later, Good, Free, Final, BoundTo, Resolved}
 use Rattle.matching.proofs.CellLaws.{from-inside, from_cons, term_at-functor, term_at-var}
+use Rattle.matching.proofs.TrailLaws.{is-none}
 
 -- how far a cell is from the end of its chain
 pub rank : List ℕ → ℕ → ℕ
@@ -28,38 +30,39 @@ unfolding rank
 rank-var xs c h = ite-no (dec_lt c 32768) _ _ (λ l. omega arith)
 
 -- `at` has the value of p
-pub record Resolving (ar cells bs trail : List ℕ) (n p at : ℕ) : Type 0 where
+pub record Resolving (ar cells : List ℕ) (bs : Places) (trail : List ℕ) (n p at : ℕ) : Type 0 where
   pub inside : at < length cells
   pub same : value ar cells bs trail n at ≡ value ar cells bs trail n p
 
 -- the end of a chain
-module _ {ar cells bs trail : List ℕ} {n p at : ℕ} (r : Resolving ar cells bs trail n p at) where
-  pub resolved : (32768 ≤ get_or cells at 0 → get_or bs (get_or cells at 0 - 32768) 0 ≡ 65535) → Resolved ar cells bs trail n p at
+module _ {ar cells : List ℕ} {bs : Places} {trail : List ℕ} {n p at : ℕ} (r : Resolving ar cells bs trail n p at) where
+  pub resolved : (32768 ≤ get_or cells at 0 → get_or bs (get_or cells at 0 - 32768) None ≡ None) → Resolved ar cells bs trail n p at
   resolved h = record { final = record { inside = r.inside; open' = h }; same = r.same }
 
+  -- the same where its variable v has no place
+  pub resolved-free : {v : ℕ} → v ≡ get_or cells at 0 - 32768 → ((place : ℕ) → get_or bs v None ≡ Some place → ⊥) → Resolved ar cells bs trail n p at
+  resolved-free e h = resolved (λ _. rw e at (is-none _ h))
+
 -- following a bound variable
-module _ {ar cells bs trail : List ℕ} {n p at : ℕ} (g : Good ar cells bs trail n) (r : Resolving ar cells bs trail n p at) {place : ℕ} (to : BoundTo bs (get_or cells at 0) place) where
+pub bound-to : {bs : Places} {cell v place : ℕ} → 32768 ≤ cell → v ≡ cell - 32768 → get_or bs v None ≡ Some place → BoundTo bs cell place
+bound-to l e h = record { variable = l; is = rw e at h }
+
+module _ {ar cells : List ℕ} {bs : Places} {trail : List ℕ} {n p at : ℕ} (g : Good ar cells bs trail n) (r : Resolving ar cells bs trail n p at) {place : ℕ} (to : BoundTo bs (get_or cells at 0) place) where
   abbrev l : 32768 ≤ get_or cells at 0
   l = to.variable
 
-  abbrev b : get_or bs (get_or cells at 0 - 32768) 0 ≡ 65535 → ⊥
-  b = to.taken
-
   pub resolving-more : Resolving ar cells bs trail n p place
-  resolving-more = rw to.is (record {
-    inside = g.within _ (g.named at r.inside l) b;
-    same = sym (g.held _ (g.named at r.inside l) b) ∙ ap (apply (elims ar cells bs trail n)) (sym (term_at-var ar cells at r.inside l)) ∙ r.same;
-  })
+  resolving-more = record {
+    inside = g.within _ place to.is;
+    same = sym (g.held _ place to.is) ∙ ap (apply (elims ar cells bs trail n)) (sym (term_at-var ar cells at r.inside l)) ∙ r.same;
+  }
 
   pub resolving-less : rank (take n trail) (get_or cells place 0) < rank (take n trail) (get_or cells at 0)
-  resolving-less = rw to.is (cases (dec_lt (get_or cells (get_or bs (get_or cells at 0 - 32768) 0) 0) 32768))
+  resolving-less = cases (dec_lt (get_or cells place 0) 32768)
     where
-      q : ℕ
-      q = get_or cells (get_or bs (get_or cells at 0 - 32768) 0) 0
-
-      cases : Dec (q < 32768) → rank (take n trail) q < rank (take n trail) (get_or cells at 0)
-      cases (yes h) = omega (arith, rank-functor (take n trail) q h, rank-var (take n trail) (get_or cells at 0) l, g.taken _ (g.named at r.inside l) b)
-      cases (no h) = omega (arith, rank-var (take n trail) q (omega arith), rank-var (take n trail) (get_or cells at 0) l, g.forward _ (g.named at r.inside l) b (omega arith))
+      cases : Dec (get_or cells place 0 < 32768) → rank (take n trail) (get_or cells place 0) < rank (take n trail) (get_or cells at 0)
+      cases (yes h) = omega (arith, rank-functor (take n trail) (get_or cells place 0) h, rank-var (take n trail) (get_or cells at 0) l, g.taken _ place to.is)
+      cases (no h) = omega (arith, rank-var (take n trail) (get_or cells place 0) (omega arith), rank-var (take n trail) (get_or cells at 0) l, g.forward _ place to.is (omega arith))
 
 -- The first of the k terms at p, and the others.
 module _ (ar cells : List ℕ) (p k : ℕ) (pos : k ≡ 0 → ⊥) (le : k ≤ count (from ar cells p)) where
@@ -72,16 +75,16 @@ module _ (ar cells : List ℕ) (p k : ℕ) (pos : k ≡ 0 → ⊥) (le : k ≤ c
       ap₂ (λ i ts. applys es (take_t i ts)) e (from_cons ar cells p first-inside) ∙ applys-cons es (term_at ar cells p) (others ar cells p k)
 
 -- The same by the place `at` that p resolves to.
-pub record Opened (ar cells bs trail : List ℕ) (n p k at : ℕ) : Type 0 where
+pub record Opened (ar cells : List ℕ) (bs : Places) (trail : List ℕ) (n p k at : ℕ) : Type 0 where
   pub final : Final cells bs at
   pub same : value ar cells bs trail n at ≡ value ar cells bs trail n p
   pub split : seen ar cells bs trail n p k ≡ cons (value ar cells bs trail n at) (applys (elims ar cells bs trail n) (others ar cells p k))
 
-module _ {ar cells bs trail : List ℕ} {n p k at : ℕ} where
+module _ {ar cells : List ℕ} {bs : Places} {trail : List ℕ} {n p k at : ℕ} where
   pub opened : (k ≡ 0 → ⊥) → k ≤ count (from ar cells p) → Resolved ar cells bs trail n p at → Opened ar cells bs trail n p k at
   opened pos le r = record { final = r.final; same = r.same; split = rw r.same (first_of ar cells p k pos le (elims ar cells bs trail n)) }
 
-module _ {ar cells bs trail : List ℕ} {n : ℕ} (g : Good ar cells bs trail n) where
+module _ {ar cells : List ℕ} {bs : Places} {trail : List ℕ} {n : ℕ} (g : Good ar cells bs trail n) where
   -- a free variable, and a functor with its arguments
   pub open-var : {at : ℕ} → Final cells bs at → 32768 ≤ get_or cells at 0 → value ar cells bs trail n at ≡ var (get_or cells at 0 - 32768)
   open-var {at} f l = ap (apply (elims ar cells bs trail n)) (term_at-var ar cells at f.inside l) ∙ g.free _ (g.named at f.inside l) (f.open' l)
@@ -97,7 +100,7 @@ module _ {ar cells bs trail : List ℕ} {n : ℕ} (g : Good ar cells bs trail n)
   final-free {at} f l = record { inside = g.named at f.inside l; open' = f.open' l }
 
   -- a variable with a functor's value is bound
-  pub resolved-bound : {p at : ℕ} → p < length cells → 32768 ≤ get_or cells p 0 → Resolved ar cells bs trail n p at → get_or cells at 0 < 32768 → get_or bs (get_or cells p 0 - 32768) 0 ≡ 65535 → ⊥
+  pub resolved-bound : {p at : ℕ} → p < length cells → 32768 ≤ get_or cells p 0 → Resolved ar cells bs trail n p at → get_or cells at 0 < 32768 → get_or bs (get_or cells p 0 - 32768) None ≡ None → ⊥
   resolved-bound {p} {at} i v r l b =
       let e : app (get_or cells at 0) (seen ar cells bs trail n (at + 1) (args_of ar (get_or cells at 0))) ≡ var (get_or cells p 0 - 32768) = sym (open-functor _ refl r.final l) ∙ r.same ∙ open-var (record { inside = i; open' = λ _. b }) v in
       let z : ◌≡◌ {A = ℕ} 0 1 = cc in

@@ -9,7 +9,8 @@ use lib.ListN.{length, get_or, take, set, length-set, length-append}
 use lib.Seq.{take-suc, take-length, take-append_seam, get_or-set_same, get_or-set_other}
 use Rattle.std.proofs.lemmas.List.{get_or_push, get_or-take, length-take-le}
 use Rattle.rules.proofs.TermLaws.{ite-yes, ite-no}
-use Rattle.matching.specs.Bindings.{later, Blank, Trailed}
+use Rattle.std.specs.Prelude.{Option, Some, None}
+use Rattle.matching.specs.Bindings.{Places, later, Blank, Trailed}
 
 -- the place of a variable in the trail
 pub later-here : (v x : ℕ) (xs : List ℕ) → v ≡ x → later v (x ∷ xs) ≡ suc (length xs)
@@ -59,33 +60,37 @@ later-left w y xs h q = cases (ℕ_discrete (later w xs) 0)
     cases (yes z) = absurd (omega (arith, later-out w y xs z, later-there w y [] q, later-none w))
     cases (no z) = omega arith
 
+-- an option that holds nothing
+pub is-none : (o : Option ℕ) → ((p : ℕ) → o ≡ Some p → ⊥) → o ≡ None
+is-none None h = refl
+is-none (Some p) h = absurd (h p refl)
+
 -- the last variable is free and unmarked again
-module _ {bs trail marks : List ℕ} (i : ℕ) (t : Trailed bs trail marks (suc i)) where
+module _ {bs : Places} {trail marks : List ℕ} (i : ℕ) (t : Trailed bs trail marks (suc i)) where
   last : get_or trail i 0 < length bs
   last = t.listed i (omega arith)
 
-  others : {w : ℕ} → w ≢ get_or trail i 0 → get_or (set bs (get_or trail i 0) 65535) w 0 ≡ get_or bs w 0
-  others {w} q = get_or-set_other bs (get_or trail i 0) w 65535 0 q
+  others : {w : ℕ} → w ≢ get_or trail i 0 → get_or (set bs (get_or trail i 0) None) w None ≡ get_or bs w None
+  others {w} q = get_or-set_other bs (get_or trail i 0) w None None q
 
-  taken' : (w : ℕ) → w < length (set bs (get_or trail i 0) 65535) → (get_or (set bs (get_or trail i 0) 65535) w 0 ≡ 65535 → ⊥) → 0 < later w (take i trail)
-  taken' w l h = cases (ℕ_discrete w (get_or trail i 0))
+  taken' : (w p : ℕ) → get_or (set bs (get_or trail i 0) None) w None ≡ Some p → 0 < later w (take i trail)
+  taken' w p h = cases (ℕ_discrete w (get_or trail i 0))
     where
       cases : Dec (w ≡ get_or trail i 0) → 0 < later w (take i trail)
-      cases (yes e) = absurd (h (rw e (get_or-set_same bs (get_or trail i 0) 65535 0 last)))
+      cases (yes e) = let z : get_or (set bs (get_or trail i 0) None) (get_or trail i 0) None ≡ None = get_or-set_same bs (get_or trail i 0) None None last in cc
       cases (no q) =
-          let k : 0 < later w (take (suc i) trail) = t.taken w (rw length-set at l) (λ z. h (others q ∙ z)) in
+          let k : 0 < later w (take (suc i) trail) = t.taken w p (sym (others q) ∙ h) in
           later-left w (get_or trail i 0) (take i trail) (rw (take-suc trail i 0 t.within) at k) q
 
-  bound' : (w : ℕ) → (get_or (set marks (get_or trail i 0) 0) w 0 ≡ 0 → ⊥) → (w < length (set bs (get_or trail i 0) 65535)) × (get_or (set bs (get_or trail i 0) 65535) w 0 ≡ 65535 → ⊥)
+  bound' : (w : ℕ) → (get_or (set marks (get_or trail i 0) 0) w 0 ≡ 0 → ⊥) → get_or (set bs (get_or trail i 0) None) w None ≡ None → ⊥
   bound' w h = cases (ℕ_discrete w (get_or trail i 0))
     where
-      cases : Dec (w ≡ get_or trail i 0) → (w < length (set bs (get_or trail i 0) 65535)) × (get_or (set bs (get_or trail i 0) 65535) w 0 ≡ 65535 → ⊥)
+      cases : Dec (w ≡ get_or trail i 0) → get_or (set bs (get_or trail i 0) None) w None ≡ None → ⊥
       cases (yes e) = absurd (h (rw e (get_or-set_same marks (get_or trail i 0) 0 0 (omega (arith, last, t.wide)))))
       cases (no q) =
-          let b = t.bound w (λ z. h (get_or-set_other marks (get_or trail i 0) w 0 0 q ∙ z)) in
-          (rw length-set b.0, λ z. b.1 (sym (others q) ∙ z))
+          λ z. t.bound w (λ y. h (get_or-set_other marks (get_or trail i 0) w 0 0 q ∙ y)) (sym (others q) ∙ z)
 
-  trailed-last : Trailed (set bs (get_or trail i 0) 65535) trail (set marks (get_or trail i 0) 0) i
+  trailed-last : Trailed (set bs (get_or trail i 0) None) trail (set marks (get_or trail i 0) 0) i
   trailed-last = record {
     within = omega (arith, t.within);
     wide = simp length-set t.wide;
@@ -94,7 +99,7 @@ module _ {bs trail marks : List ℕ} (i : ℕ) (t : Trailed bs trail marks (suc 
     bound = bound';
   }
 
-module _ {bs marks : List ℕ} where
+module _ {bs : Places} {marks : List ℕ} where
   -- no more of the trail than is bound
   pub trailed-taken : {trail : List ℕ} {n : ℕ} → Trailed bs trail marks n → Trailed bs (take n trail) marks (length (take n trail))
   trailed-taken {trail} {n} t =
@@ -103,26 +108,26 @@ module _ {bs marks : List ℕ} where
         within = omega arith;
         wide = t.wide;
         listed = λ i l. rw (get_or-take n trail i 0 (omega (arith, e))) (t.listed i (omega (arith, e)));
-        taken = λ v l h. rw take-length (t.taken v l h);
+        taken = λ v p h. rw take-length (t.taken v p h);
         bound = t.bound;
       }
 
-module _ {bs marks : List ℕ} where
+module _ {bs : Places} {marks : List ℕ} where
   -- without the last
-  pub trailed-popped : (xs : List ℕ) (y : ℕ) → Trailed bs (xs ++ (y ∷ [])) marks (length (xs ++ (y ∷ []))) → Trailed (set bs y 65535) xs (set marks y 0) (length xs)
+  pub trailed-popped : (xs : List ℕ) (y : ℕ) → Trailed bs (xs ++ (y ∷ [])) marks (length (xs ++ (y ∷ []))) → Trailed (set bs y None) xs (set marks y 0) (length xs)
   trailed-popped xs y t =
       let e : length (xs ++ (y ∷ [])) ≡ suc (length xs) = omega (arith, length-append xs (y ∷ [])) in
-      let last : Trailed (set bs (get_or (xs ++ (y ∷ [])) (length xs) 0) 65535) (xs ++ (y ∷ [])) (set marks (get_or (xs ++ (y ∷ [])) (length xs) 0) 0) (length xs) = trailed-last (length xs) (rw e at t) in
-      let popped : Trailed (set bs y 65535) (xs ++ (y ∷ [])) (set marks y 0) (length xs) = rw (get_or_push xs y 0 (length xs) refl) at last in
-      let front : Trailed (set bs y 65535) (take (length xs) (xs ++ (y ∷ []))) (set marks y 0) (length (take (length xs) (xs ++ (y ∷ [])))) = trailed-taken popped in
+      let last : Trailed (set bs (get_or (xs ++ (y ∷ [])) (length xs) 0) None) (xs ++ (y ∷ [])) (set marks (get_or (xs ++ (y ∷ [])) (length xs) 0) 0) (length xs) = trailed-last (length xs) (rw e at t) in
+      let popped : Trailed (set bs y None) (xs ++ (y ∷ [])) (set marks y 0) (length xs) = rw (get_or_push xs y 0 (length xs) refl) at last in
+      let front : Trailed (set bs y None) (take (length xs) (xs ++ (y ∷ []))) (set marks y 0) (length (take (length xs) (xs ++ (y ∷ [])))) = trailed-taken popped in
       rw take-append_seam at front
 
   pub trailed-none : {trail : List ℕ} {left : ℕ} → Trailed bs trail marks left → left ≡ 0 → Blank bs marks
   trailed-none {left = suc i} t h = absurd (omega arith)
   trailed-none {left = zero} t h = record { free = free'; unmarked = unmarked' }
     where
-      free' : (v : ℕ) → v < length bs → get_or bs v 0 ≡ 65535
-      free' v l = elim (ℕ_discrete (get_or bs v 0) 65535) [ yes e ↦ e | no q ↦ absurd (omega (arith, t.taken v l q, later-none v)) ]
+      free' : (v : ℕ) → get_or bs v None ≡ None
+      free' v = is-none (get_or bs v None) (λ p e. omega (arith, t.taken v p e, later-none v))
 
       unmarked' : (w : ℕ) → get_or marks w 0 ≡ 0
-      unmarked' w = elim (ℕ_discrete (get_or marks w 0) 0) [ yes e ↦ e | no q ↦ absurd ((t.bound w q).1 (free' w (t.bound w q).0)) ]
+      unmarked' w = elim (ℕ_discrete (get_or marks w 0) 0) [ yes e ↦ e | no q ↦ absurd (t.bound w q (free' w)) ]

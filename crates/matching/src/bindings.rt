@@ -6,15 +6,11 @@ ghost use Rattle.std.proofs.Props.{props};
 
 use super::cells::{FlatTerms, VARIABLE};
 
-// No term stands at this place, since cells are fewer.
-const FREE: u16 = u16::MAX;
-
-// For each of 1,280 variables: the place of the term that it was replaced by, or FREE; and the mark of the occurs check. The first `bound`
-// entries of the trail are the variables replaced, in order.
+// For each of 1,280 variables: the place of the term that it was replaced by, or `None` where it is free; and the mark of the occurs check.
+// The first `bound` entries of the trail are the variables replaced, in order.
 #[derive(Drop)]
 pub struct Table {
-    // With `Option<u16>` a new table takes 2,490 instructions more, by a count of it alone: the smallest run takes 47,000, and the bar is 48,400.
-    pub bind: [u16; 1280],
+    pub bind: [Option<u16>; 1280],
     // The kit's `ArrayVec` has the same two fields as the trail and `bound`: a crate more, for one push.
     pub trail: [u16; 1280],
     // Of pairs with `bind` the places in `Good` and the marks in `Checking` would each be a `map`.
@@ -30,7 +26,7 @@ impl Table {
         ensures empty { result.bound ≡ 0 }
     {
         Table {
-            bind: [FREE; 1280],
+            bind: [None; 1280],
             trail: [0; 1280],
             marks: [0; 1280],
             bound: 0,
@@ -44,7 +40,7 @@ impl Table {
         ensures empty { self.new.bound ≡ 0 }
     {
         for &v in self.trail[..self.bound].iter().rev() {
-            self.bind[usize::from(v)] = FREE;
+            self.bind[usize::from(v)] = None;
             self.marks[usize::from(v)] = 0;
         }
         self.bound = 0;
@@ -72,10 +68,9 @@ impl Bound<'_> {
             if c < VARIABLE {
                 return at;
             }
-            let place = self.table.bind[usize::from(c - VARIABLE)];
-            if place == FREE {
+            let Some(place) = self.table.bind[usize::from(c - VARIABLE)] else {
                 return at;
-            }
+            };
             at = usize::from(place);
         }
     }

@@ -14,23 +14,18 @@ use super::bindings::{Bound, Table};
 use super::cells::{FlatTerms, VARIABLE};
 use super::occurs::occurs;
 
-// Why terms are not unified: they differ, with what is left after the equations, the failing one included. Or the unification was broken
-// off, since it takes more equations than were left.
+// How a unification ended, with what is left after its equations, the failing one included. Or it was broken off, since it takes more
+// equations than were left. With `Result<u32, Failure>`, whose error holds a number too, `vast 15` takes 1.04 ms in place of 0.91.
 #[derive(Clone, Copy, Debug, PartialEq, Eq)]
-pub enum Failure {
+pub enum Outcome {
+    Unified(u32),
     Failed(u32),
     Broken,
 }
 
 // The equation between the free variable v and the term at p, which is not that variable. `rest` is left after it. The place
 // fits, so `try_from` would give an error that cannot come.
-fn eliminate(
-    terms: &FlatTerms,
-    table: &mut Table,
-    rest: u32,
-    v: u16,
-    p: usize,
-) -> Result<u32, Failure>
+fn eliminate(terms: &FlatTerms, table: &mut Table, rest: u32, v: u16, p: usize) -> Outcome
     requires state { State terms.now.symbols.now terms.now.cells.now table.old.bind table.old.trail table.old.marks table.old.bound table.old.bound }
     requires free { Free table.old.bind v }
     requires final_place { Final terms.now.cells.now table.old.bind p }
@@ -38,29 +33,29 @@ fn eliminate(
 {
     let found = occurs(terms, table, v, p);
     if found {
-        return Err(Failure::Failed(rest));
+        return Outcome::Failed(rest);
     }
-    table.bind[usize::from(v)] = p as u16;
+    table.bind[usize::from(v)] = Some(p as u16);
     table.trail[table.bound] = v;
     table.bound += 1;
-    Ok(rest)
+    Outcome::Unified(rest)
 }
 
 // The equation between the terms at a and b, at neither of which stands a variable that was replaced.
 #[cycle(pair_pairs)]
-fn pair(terms: &FlatTerms, table: &mut Table, left: u32, a: usize, b: usize) -> Result<u32, Failure>
+fn pair(terms: &FlatTerms, table: &mut Table, left: u32, a: usize, b: usize) -> Outcome
     requires { Paired terms.now.symbols.now terms.now.cells.now table.old.bind table.old.trail table.old.marks table.old.bound a b }
     ensures { RanPair terms.now.symbols.now terms.now.cells.now table.old.bind table.old.trail table.old.bound a b left table.new.bind table.new.trail table.new.marks table.new.bound result }
 {
     if left == 0 {
-        return Err(Failure::Broken);
+        return Outcome::Broken;
     }
     let rest = left - 1;
     let c = terms.cells[a];
     let d = terms.cells[b];
     if VARIABLE <= c {
         if c == d {
-            return Ok(rest);
+            return Outcome::Unified(rest);
         }
         return eliminate(terms, table, rest, c - VARIABLE, b);
     }
@@ -68,7 +63,7 @@ fn pair(terms: &FlatTerms, table: &mut Table, left: u32, a: usize, b: usize) -> 
         return eliminate(terms, table, rest, d - VARIABLE, a);
     }
     if c != d {
-        return Err(Failure::Failed(rest));
+        return Outcome::Failed(rest);
     }
     let arity = terms.arity(a);
     pairs(terms, table, rest, a + 1, b + 1, arity)
@@ -83,14 +78,14 @@ fn pairs(
     p: usize,
     q: usize,
     number: usize,
-) -> Result<u32, Failure>
+) -> Outcome
     requires state { State terms.now.symbols.now terms.now.cells.now table.old.bind table.old.trail table.old.marks table.old.bound table.old.bound }
     requires left_bound { number ≤ count (from terms.now.symbols.now terms.now.cells.now p) }
     requires right_bound { number ≤ count (from terms.now.symbols.now terms.now.cells.now q) }
     ensures { RanPairs terms.now.symbols.now terms.now.cells.now table.old.bind table.old.trail table.old.bound p q number left table.new.bind table.new.trail table.new.marks table.new.bound result }
 {
     if number == 0 {
-        return Ok(left);
+        return Outcome::Unified(left);
     }
     let bound = Bound {
         terms: *terms,
@@ -98,10 +93,15 @@ fn pairs(
     };
     let a = bound.resolve(p);
     let b = bound.resolve(q);
-    let rest = pair(terms, table, left, a, b)?;
-    let p_next = terms.after_first(p, number);
-    let q_next = terms.after_first(q, number);
-    pairs(terms, table, rest, p_next, q_next, number - 1)
+    match pair(terms, table, left, a, b) {
+        Outcome::Unified(rest) => {
+            let p_next = terms.after_first(p, number);
+            let q_next = terms.after_first(q, number);
+            pairs(terms, table, rest, p_next, q_next, number - 1)
+        }
+        Outcome::Failed(rest) => Outcome::Failed(rest),
+        Outcome::Broken => Outcome::Broken,
+    }
 }
 
 // Unifies the `number` terms at p with those at q, with at most `left` equations. The bindings stand for
@@ -113,7 +113,7 @@ pub fn unify_terms(
     p: usize,
     q: usize,
     number: usize,
-) -> Result<u32, Failure>
+) -> Outcome
     requires ready { Ready terms.now.symbols.now terms.now.cells.now (length table.old.bind) (length table.old.trail) (length table.old.marks) }
     requires blank { Blank table.old.bind table.old.marks }
     requires left_bound { number ≤ count (from terms.now.symbols.now terms.now.cells.now p) }

@@ -10,12 +10,12 @@ use Rattle.rules.specs.Unification.{Unification, solved, equations, applys}
 use Rattle.rules.proofs.TermLaws.{sizes-join, join-assoc}
 use Rattle.matching.specs.Taking.{drop_t}
 use Rattle.matching.specs.Cells.{from, term_at}
-use Rattle.matching.specs.Bindings.{elims, Ready}
+use Rattle.matching.specs.Bindings.{Places, elims, Ready}
 use Rattle.matching.proofs.CellLaws.{from_cons}
 use Rattle.resolvents.specs.Naming.{within, order_after, cells_under, Wrote}
 use Rattle.resolvents.specs.declared.resolve.Call.{Call}
 use Rattle.resolvents.specs.Child.{range_after, literals_after, IsChild, DerivedBy, place_after, literals_before, Together}
-use Rattle.std.specs.Prelude.{Result, Ok, Err}
+use Rattle.std.specs.Prelude.{Option, Result, Ok, Err}
 use Rattle.resolvents.specs.declared.put.Full.{Full}
 use Rattle.resolvents.specs.declared.resolve.Resolved.{Resolved}
 use Rattle.resolvents.specs.declared.resolve.Resolved.TheVariants.{Child}
@@ -25,27 +25,27 @@ use Rattle.resolvents.proofs.RowLaws.{skipped}
 
 -- WHAT IS WRITTEN
 -- The answer terms, and then three ranges of literals.
-module _ {out order out₁ names₁ order₁ : List ℕ} {m m₁ e : ℕ} {ans : Terms} (w : Wrote out order 2 m ans out₁ names₁ order₁ m₁ (Ok e)) where
+module _ {out order out₁ order₁ : List ℕ} {names₁ : List (Option ℕ)} {m m₁ e : ℕ} {ans : Terms} (w : Wrote out order 2 m ans out₁ names₁ order₁ m₁ (Ok e)) where
   pub goal-narrow : 2 ≤ e
   goal-narrow = omega (arith, w.tells.0)
 
   pub goal-width : e - 2 ≡ sizes ans
   goal-width = omega (arith, w.tells.0)
 
-  module _ {out₂ names₂ order₂ : List ℕ} {m₂ : ℕ} {bs : Terms} where
+  module _ {out₂ order₂ : List ℕ} {names₂ : List (Option ℕ)} {m₂ : ℕ} {bs : Terms} where
     -- The first does not fit.
     pub goal-first-full : {why : Full} (ds cs : Terms) → Wrote out₁ order₁ e m₁ bs out₂ names₂ order₂ m₂ (Err why) → Wrote out order 2 m (ans +++ (bs +++ (ds +++ cs))) out₂ names₂ order₂ m₂ (Err why)
     goal-first-full ds cs v = subst (λ ts. Wrote out order 2 m ts out₂ names₂ order₂ m₂ (Err _)) (join-assoc ans bs (ds +++ cs)) (wrote-full (ds +++ cs) (wrote-join w v))
 
-    module _ {e₂ : ℕ} (v : Wrote out₁ order₁ e m₁ bs out₂ names₂ order₂ m₂ (Ok e₂)) {out₃ names₃ order₃ : List ℕ} {m₃ : ℕ} {ds : Terms} where
+    module _ {e₂ : ℕ} (v : Wrote out₁ order₁ e m₁ bs out₂ names₂ order₂ m₂ (Ok e₂)) {out₃ order₃ : List ℕ} {names₃ : List (Option ℕ)} {m₃ : ℕ} {ds : Terms} where
       -- The second does not.
       pub goal-second-full : {why : Full} (cs : Terms) → Wrote out₂ order₂ e₂ m₂ ds out₃ names₃ order₃ m₃ (Err why) → Wrote out order 2 m (ans +++ (bs +++ (ds +++ cs))) out₃ names₃ order₃ m₃ (Err why)
       goal-second-full cs u =
           subst (λ ts. Wrote out order 2 m ts out₃ names₃ order₃ m₃ (Err _)) (join-assoc (ans +++ bs) ds cs ∙ join-assoc ans bs (ds +++ cs)) (wrote-full cs (wrote-join (wrote-join w v) u))
 
       -- The third.
-      pub goal-all : {e₃ : ℕ} → Wrote out₂ order₂ e₂ m₂ ds out₃ names₃ order₃ m₃ (Ok e₃) → {out₄ names₄ order₄ : List ℕ} {m₄ : ℕ} {cs : Terms} {r : Result ℕ Full} → Wrote out₃ order₃ e₃ m₃ cs out₄ names₄ order₄ m₄ r → Wrote out order 2 m (ans +++ (bs +++ (ds +++ cs))) out₄ names₄ order₄ m₄ r
-      goal-all u {out₄} {names₄} {order₄} {m₄} {cs} {r} x =
+      pub goal-all : {e₃ : ℕ} → Wrote out₂ order₂ e₂ m₂ ds out₃ names₃ order₃ m₃ (Ok e₃) → {out₄ order₄ : List ℕ} {names₄ : List (Option ℕ)} {m₄ : ℕ} {cs : Terms} {r : Result ℕ Full} → Wrote out₃ order₃ e₃ m₃ cs out₄ names₄ order₄ m₄ r → Wrote out order 2 m (ans +++ (bs +++ (ds +++ cs))) out₄ names₄ order₄ m₄ r
+      goal-all u {out₄} {order₄} {names₄} {m₄} {cs} {r} x =
           subst (λ ts. Wrote out order 2 m ts out₄ names₄ order₄ m₄ r) (join-assoc (ans +++ bs) ds cs ∙ join-assoc ans bs (ds +++ cs)) (wrote-join (wrote-join (wrote-join w v) u) x)
 
 -- THE WORDS
@@ -57,7 +57,7 @@ framed (x ∷ y ∷ zs) xs a b h =
     ap (λ l. take (suc (suc (length xs))) (set (set l 0 a) 1 b)) (sets-eq xs (x ∷ y ∷ zs) 2 h)
     ∙ ap (λ l. a ∷ b ∷ l) (take-append_seam xs (drop (2 + length xs) (x ∷ y ∷ zs)))
 
-module _ {out order : List ℕ} (A L : Terms) {out' names' order' : List ℕ} {m' : ℕ} (long : length out ≡ 1024) where
+module _ {out order : List ℕ} (A L : Terms) {out' order' : List ℕ} {names' : List (Option ℕ)} {m' : ℕ} (long : length out ≡ 1024) where
   pub child-narrow : {m end width : ℕ} → width ≡ sizes A → Wrote out order 2 m (A +++ L) out' names' order' m' (Ok end) → (width ≤ 1024) × (end ≤ 1024) × (length out' ≡ 1024)
   child-narrow wide w = (omega (arith, w.tells.0, w.tells.1, sizes-join A L), omega (arith, w.tells.1), wrote-length w ∙ long)
 
@@ -85,7 +85,7 @@ pub rest-left : {u v : Unification} {left : ℕ} (rest : ℕ) → u ≡ v → eq
 rest-left rest e q = ap (λ x. equations x + rest) e ∙ q
 
 -- The substitution goes through the ranges of literals.
-module _ (ar cells bs trail : List ℕ) (n : ℕ) (call : Call) (body : ℕ) (here : body ≡ place_after ar cells call.len) where
+module _ (ar cells : List ℕ) (bs : Places) (trail : List ℕ) (n : ℕ) (call : Call) (body : ℕ) (here : body ≡ place_after ar cells call.len) where
   literals-after : applys (elims ar cells bs trail n) (literals_before ar cells call) ≡ literals_after ar cells bs trail n call body
   literals-after =
       let es = elims ar cells bs trail n in

@@ -13,11 +13,11 @@ use Rattle.rules.specs.Unification.{Substitution, done, bind, apply, applys}
 use Rattle.rules.proofs.TermLaws.{sizes-join, join-nil, subs-join, applys-nil, applys-cons, apply-app}
 use Rattle.matching.specs.Taking.{take_t, drop_t}
 use Rattle.matching.specs.Cells.{args_of, made, reads, from, term_at}
-use Rattle.matching.specs.Bindings.{elims, Good, Final}
+use Rattle.matching.specs.Bindings.{Places, elims, Good, Final}
 use Rattle.matching.proofs.CellLaws.{args-functor, args-var, made-functor, made-var, count-reads, term_at-var}
 use Rattle.matching.proofs.SeenLaws.{open-var, open-functor}
 use Rattle.resolvents.specs.Naming.{within, shown, Named, Wrote}
-use Rattle.std.specs.Prelude.{Result, Ok, Err}
+use Rattle.std.specs.Prelude.{Option, Result, Ok, Err}
 use Rattle.resolvents.specs.declared.put.Full.{Full}
 use Rattle.resolvents.proofs.WroteLaws.{wrote_none, wrote-over, wrote-functor, wrote-join, wrote-full, wrote-room}
 
@@ -66,19 +66,19 @@ module _ (es : Substitution) (ar cells : List ℕ) (i end : ℕ) where
         rw (range-cell ar cells i end l h, made-var (get_or cells i 0) _ f, args-var ar (get_or cells i 0) f, applys-cons, z, term_at-var ar cells i (omega arith) f)
 
 -- Up to the cell i, with `todo` terms still to come: whatever is written from there on makes the whole.
-pub record Putting (ar cells bs trail : List ℕ) (n end total : ℕ) (Whole : List ℕ → List ℕ → List ℕ → ℕ → Result ℕ Full → Type 0) (names order out : List ℕ) (i todo at m : ℕ) : Type 0 where
+pub record Putting (ar cells : List ℕ) (bs : Places) (trail : List ℕ) (n end total : ℕ) (Whole : List ℕ → List (Option ℕ) → List ℕ → ℕ → Result ℕ Full → Type 0) (names : List (Option ℕ)) (order out : List ℕ) (i todo at m : ℕ) : Type 0 where
   pub few : todo ≤ 65535 + 255 * i
   pub room : at ≤ length out
   pub held : Named names order m
   pub fewer : sizes (shown ar cells bs trail n i end todo) ≤ total
-  pub rest : (out' names' order' : List ℕ) (m' : ℕ) (r : Result ℕ Full) → Wrote out order at m (shown ar cells bs trail n i end todo) out' names' order' m' r → Whole out' names' order' m' r
+  pub rest : (out' : List ℕ) (names' : List (Option ℕ)) (order' : List ℕ) (m' : ℕ) (r : Result ℕ Full) → Wrote out order at m (shown ar cells bs trail n i end todo) out' names' order' m' r → Whole out' names' order' m' r
 
-pub putting-start : {ar cells bs trail : List ℕ} {n p end number : ℕ} {names order out : List ℕ} {m to : ℕ}
+pub putting-start : {ar cells : List ℕ} {bs : Places} {trail : List ℕ} {n p end number : ℕ} {names : List (Option ℕ)} {order out : List ℕ} {m to : ℕ}
     → Named names order m → (number < 65536) × (to ≤ length out)
     → Putting ar cells bs trail n end (sizes (shown ar cells bs trail n p end number)) (Wrote out order to m (shown ar cells bs trail n p end number)) names order out p number to m
 putting-start w l = record { few = omega (arith, l.0); room = l.1; held = w; fewer = omega arith; rest = λ _ _ _ _ _ h. h }
 
-module _ {ar cells bs trail : List ℕ} {n end total : ℕ} {Whole : List ℕ → List ℕ → List ℕ → ℕ → Result ℕ Full → Type 0} {names order out : List ℕ} {i todo at m : ℕ} (s : Putting ar cells bs trail n end total Whole names order out i todo at m) where
+module _ {ar cells : List ℕ} {bs : Places} {trail : List ℕ} {n end total : ℕ} {Whole : List ℕ → List (Option ℕ) → List ℕ → ℕ → Result ℕ Full → Type 0} {names : List (Option ℕ)} {order out : List ℕ} {i todo at m : ℕ} (s : Putting ar cells bs trail n end total Whole names order out i todo at m) where
   -- No term is left, or no cell.
   pub putting-none : todo ≡ 0 → Whole out names order m (Ok at)
   putting-none e = s.rest out names order m (Ok at) (wrote_none s.held s.room (rw e (applys-nil (elims ar cells bs trail n))))
@@ -111,7 +111,7 @@ module _ {ar cells bs trail : List ℕ} {n end total : ℕ} {Whole : List ℕ �
     pub putting-first : 32768 ≤ get_or cells i 0 → shown ar cells bs trail n i end todo ≡ cons (apply (elims ar cells bs trail n) (term_at ar cells i)) (shown ar cells bs trail n (i + 1) end (todo - 1))
     putting-first f = range-variable (elims ar cells bs trail n) ar cells i end l h todo q f
 
-    pub putting-term : {out' names' order' : List ℕ} {d j : ℕ} → 32768 ≤ get_or cells i 0
+    pub putting-term : {out' order' : List ℕ} {names' : List (Option ℕ)} {d j : ℕ} → 32768 ≤ get_or cells i 0
         → Wrote out order at m (cons (apply (elims ar cells bs trail n) (term_at ar cells i)) nil) out' names' order' j (Ok d)
         → Putting ar cells bs trail n end total Whole names' order' out' (i + 1) (todo - 1) d j
     putting-term {d = d} f w = record {
@@ -122,7 +122,7 @@ module _ {ar cells bs trail : List ℕ} {n end total : ℕ} {Whole : List ℕ �
       rest = λ out'' names'' order'' m'' x v. s.rest out'' names'' order'' m'' x (rw (putting-first f) (wrote-join w v));
     }
 
-    pub putting-full : {out' names' order' : List ℕ} {j : ℕ} {why : Full} → 32768 ≤ get_or cells i 0
+    pub putting-full : {out' order' : List ℕ} {names' : List (Option ℕ)} {j : ℕ} {why : Full} → 32768 ≤ get_or cells i 0
         → Wrote out order at m (cons (apply (elims ar cells bs trail n) (term_at ar cells i)) nil) out' names' order' j (Err why) → Whole out' names' order' j (Err why)
     putting-full f w = s.rest _ _ _ _ _ (rw (putting-first f) (wrote-full (shown ar cells bs trail n (i + 1) end (todo - 1)) w))
 
@@ -140,8 +140,8 @@ range-seen : (es : Substitution) (ar cells : List ℕ) (p k : ℕ) → applys es
 range-seen es ar cells p k = rw take-length
 
 -- The term t is the one at q: a free variable, or a functor with its arguments.
-module _ {ar cells bs trail : List ℕ} {n q : ℕ} {t : Term} (g : Good ar cells bs trail n) (f : Final cells bs q) (v : apply (elims ar cells bs trail n) (term_at ar cells q) ≡ t) where
-  pub bound-variable : {out order : List ℕ} {to m : ℕ} {out' names' order' : List ℕ} {m' : ℕ} {r : Result ℕ Full} → 32768 ≤ get_or cells q 0
+module _ {ar cells : List ℕ} {bs : Places} {trail : List ℕ} {n q : ℕ} {t : Term} (g : Good ar cells bs trail n) (f : Final cells bs q) (v : apply (elims ar cells bs trail n) (term_at ar cells q) ≡ t) where
+  pub bound-variable : {out order : List ℕ} {to m : ℕ} {out' order' : List ℕ} {names' : List (Option ℕ)} {m' : ℕ} {r : Result ℕ Full} → 32768 ≤ get_or cells q 0
       → Wrote out order to m (cons (var (get_or cells q 0 - 32768)) nil) out' names' order' m' r → Wrote out order to m (cons t nil) out' names' order' m' r
   bound-variable l w = rw (← v, open-var g f l) w
 
@@ -152,7 +152,7 @@ module _ {ar cells bs trail : List ℕ} {n q : ℕ} {t : Term} (g : Good ar cell
     pub bound-less : {ts us : Terms} → ts ≡ cons t us → sizes (shown ar cells bs trail n (q + 1) (length cells) a) < sizes ts
     bound-less d = omega (arith, ap sizes d, ap size bound-term)
 
-    pub bound-functor : {out order : List ℕ} {to m : ℕ} {out' names' order' : List ℕ} {m' : ℕ} {r : Result ℕ Full}
+    pub bound-functor : {out order : List ℕ} {to m : ℕ} {out' order' : List ℕ} {names' : List (Option ℕ)} {m' : ℕ} {r : Result ℕ Full}
         → Wrote (set out to (get_or cells q 0)) order (to + 1) m (shown ar cells bs trail n (q + 1) (length cells) a) out' names' order' m' r
         → Wrote out order to m (cons t nil) out' names' order' m' r
     bound-functor w = wrote-functor (ap (λ u. cons u nil) bound-term) (sym (join-nil (shown ar cells bs trail n (q + 1) (length cells) a))) w

@@ -13,7 +13,7 @@ use Rattle.rules.proofs.TermLaws.{sizes-join, occ-same, size-pos}
 use Rattle.rules.proofs.CellLaws.{terms-length, write-append, write-join, vars-join}
 use Rattle.rules.proofs.NumberingLaws.{vars-append, occs-in, position-left, appearing-extends, appearing-finds}
 use Rattle.resolvents.specs.Naming.{Named, order_after, cells_under, Wrote}
-use Rattle.std.specs.Prelude.{Result, Ok, Err}
+use Rattle.std.specs.Prelude.{Option, Some, None, Result, Ok, Err}
 use Rattle.resolvents.specs.declared.put.Full.{Full}
 use Rattle.resolvents.proofs.NamingLaws.{appearing-append, appears-old, appears-new, position-last, named-many, is-named, not_named, number_of, order-more, named_more}
 
@@ -72,17 +72,17 @@ sets-append [] vs l i = ap (λ j. sets l j vs) (omega arith)
 sets-append (u ∷ us) vs l i = sets-append us vs (set l i u) (suc i) ∙ ap (λ j. sets (sets (set l i u) (suc i) us) j vs) (omega arith)
 
 -- WHAT IS WRITTEN
-pub wrote_none : {out names order : List ℕ} {to m : ℕ} {ts : Terms} → Named names order m → to ≤ length out → ts ≡ nil → Wrote out order to m ts out names order m (Ok to)
+pub wrote_none : {out order : List ℕ} {names : List (Option ℕ)} {to m : ℕ} {ts : Terms} → Named names order m → to ≤ length out → ts ≡ nil → Wrote out order to m ts out names order m (Ok to)
 unfolding appearing
-wrote_none {out} {names} {order} {to} {m} w l e = rw e (record { tells = (omega arith, l, refl, refl); kept = w })
+wrote_none {out} {order} {names} {to} {m} w l e = rw e (record { tells = (omega arith, l, refl, refl); kept = w })
 
 -- There is no room for a first cell.
-pub wrote-over : {out order : List ℕ} {to m : ℕ} {ts us : Terms} {t : Term} {out' names' order' : List ℕ} {why : Full} → Named names' order' m → ts ≡ cons t us → length out ≤ to → Wrote out order to m ts out' names' order' m (Err why)
+pub wrote-over : {out order : List ℕ} {to m : ℕ} {ts us : Terms} {t : Term} {out' order' : List ℕ} {names' : List (Option ℕ)} {why : Full} → Named names' order' m → ts ≡ cons t us → length out ≤ to → Wrote out order to m ts out' names' order' m (Err why)
 wrote-over {t = t} w e l = rw e (record { tells = omega (arith, size-pos t); kept = w })
 
 -- A functor, and then its arguments and the other terms.
 pub wrote-functor :
-    {out order : List ℕ} {to m f : ℕ} {us vs ts ws : Terms} {out' names' order' : List ℕ} {m' : ℕ} {r : Result ℕ Full} → ts ≡ cons (app f us) vs → ws ≡ us +++ vs
+    {out order : List ℕ} {to m f : ℕ} {us vs ts ws : Terms} {out' order' : List ℕ} {names' : List (Option ℕ)} {m' : ℕ} {r : Result ℕ Full} → ts ≡ cons (app f us) vs → ws ≡ us +++ vs
     → Wrote (set out to f) order (to + 1) m ws out' names' order' m' r → Wrote out order to m ts out' names' order' m' r
 wrote-functor {out} {order} {to} {m} {f} {us} {vs} {ts} {ws} {r = Ok e} p q w =
     let h = w.tells in
@@ -100,7 +100,7 @@ wrote-functor {out} {order} {to} {m} {f} {us} {vs} {r = Err why} p q w = rw p (r
 
 -- One list and then another; where the first does not fit, the whole does not.
 pub wrote-join :
-    {out order : List ℕ} {to m e k : ℕ} {ts us : Terms} {out₁ names₁ order₁ out₂ names₂ order₂ : List ℕ} {m' : ℕ} {r : Result ℕ Full}
+    {out order : List ℕ} {to m e k : ℕ} {ts us : Terms} {out₁ order₁ out₂ order₂ : List ℕ} {names₁ names₂ : List (Option ℕ)} {m' : ℕ} {r : Result ℕ Full}
     → Wrote out order to m ts out₁ names₁ order₁ k (Ok e) → Wrote out₁ order₁ e k us out₂ names₂ order₂ m' r → Wrote out order to m (ts +++ us) out₂ names₂ order₂ m' r
 wrote-join {out} {order} {to} {m} {e} {k} {ts} {us} {out₁} {order₁ = order₁} {r = Ok d} v w =
     let h = v.tells in
@@ -127,19 +127,19 @@ wrote-join {out} {order} {to} {m} {ts = ts} {us} {r = Err why} v w =
     record { tells = omega (arith, w.tells, h.0, ap length h.3, length-sets out to (cells_under (order_after (take m order) ts) ts), sizes-join ts us); kept = w.kept }
 
 pub wrote-full :
-    {out order : List ℕ} {to m k : ℕ} {ts : Terms} (us : Terms) {out' names' order' : List ℕ} {why : Full}
+    {out order : List ℕ} {to m k : ℕ} {ts : Terms} (us : Terms) {out' order' : List ℕ} {names' : List (Option ℕ)} {why : Full}
     → Wrote out order to m ts out' names' order' k (Err why) → Wrote out order to m (ts +++ us) out' names' order' k (Err why)
 wrote-full {ts = ts} us w = record { tells = omega (arith, w.tells, sizes-join ts us); kept = w.kept }
 
-pub wrote-room : {out order : List ℕ} {to m e k : ℕ} {ts : Terms} {out' names' order' : List ℕ} → Wrote out order to m ts out' names' order' k (Ok e) → e ≤ length out'
+pub wrote-room : {out order : List ℕ} {to m e k : ℕ} {ts : Terms} {out' order' : List ℕ} {names' : List (Option ℕ)} → Wrote out order to m ts out' names' order' k (Ok e) → e ≤ length out'
 wrote-room {out} {order} {to} {m} {ts = ts} w = let h = w.tells in omega (arith, h.1, ap length h.3, length-sets out to (cells_under (order_after (take m order) ts) ts))
 
-pub wrote-length : {out order : List ℕ} {to m e k : ℕ} {ts : Terms} {out' names' order' : List ℕ} → Wrote out order to m ts out' names' order' k (Ok e) → length out' ≡ length out
+pub wrote-length : {out order : List ℕ} {to m e k : ℕ} {ts : Terms} {out' order' : List ℕ} {names' : List (Option ℕ)} → Wrote out order to m ts out' names' order' k (Ok e) → length out' ≡ length out
 wrote-length {out} {order} {to} {m} {ts = ts} w = ap length w.tells.3 ∙ length-sets out to (cells_under (order_after (take m order) ts) ts)
 
 -- A variable: with the next number, or with the one that it has.
-module _ {names order : List ℕ} {m : ℕ} (w : Named names order m) {v : ℕ} (l : v < length names) {out : List ℕ} {to : ℕ} (room : to < length out) where
-  pub wrote-new : get_or names v 0 ≡ 65535 → Wrote out order to m (cons (var v) nil) (set out to (32768 + m)) (set names v m) (set order m v) (m + 1) (Ok (to + 1))
+module _ {names : List (Option ℕ)} {order : List ℕ} {m : ℕ} (w : Named names order m) {v : ℕ} (l : v < length names) {out : List ℕ} {to : ℕ} (room : to < length out) where
+  pub wrote-new : get_or names v None ≡ None → Wrote out order to m (cons (var v) nil) (set out to (32768 + m)) (set names v (Some m)) (set order m v) (m + 1) (Ok (to + 1))
   wrote-new e =
       let n = not_named w l e in
       let a = appears-new (take m order) v n in
@@ -148,11 +148,10 @@ module _ {names order : List ℕ} {m : ℕ} (w : Named names order m) {v : ℕ} 
         kept = named_more w l e;
       }
 
-  pub wrote-old : (get_or names v 0 ≡ 65535 → ⊥) → Wrote out order to m (cons (var v) nil) (set out to (32768 + get_or names v 0)) names order m (Ok (to + 1))
-  wrote-old q =
-      let h = is-named w l q in
-      let a = appears-old (take m order) v h in
+  pub wrote-old : {k : ℕ} → get_or names v None ≡ Some k → Wrote out order to m (cons (var v) nil) (set out to (32768 + k)) names order m (Ok (to + 1))
+  wrote-old e =
+      let a = appears-old (take m order) v (is-named w l e) in
       record {
-        tells = (omega arith, omega arith, sym a, ap (λ k. set out to (32768 + k)) (number_of w l h ∙ ap (λ ys. position ys v) (sym a)));
+        tells = (omega arith, omega arith, sym a, ap (λ k. set out to (32768 + k)) (number_of w l e ∙ ap (λ ys. position ys v) (sym a)));
         kept = w;
       }

@@ -3,7 +3,7 @@ use Rattle.std.specs.Prelude.{ℕ, ◌+◌, ◌-◌, ◌≤◌, ◌<◌, ◌≡�
 use Rattle.rules.specs.Terms.{Terms, ◌+++◌, count, size, sizes}
 use Rattle.rules.specs.Unification.{Unification, fails, spent, solved, equations, applys}
 use Rattle.matching.specs.Cells.{from, term_at, Formed}
-use Rattle.matching.specs.Bindings.{elims}
+use Rattle.matching.specs.Bindings.{Places, elims}
 use Rattle.resolvents.specs.Naming.{within, order_after, cells_under, Wrote}
 use Rattle.matching.specs.declared.bindings.Bound.{Bound}
 use Rattle.resolvents.specs.declared.resolve.Call.{Call}
@@ -12,11 +12,11 @@ use Rattle.resolvents.specs.declared.resolve.Resolved.{Resolved}
 use Rattle.resolvents.specs.declared.resolve.Resolved.TheVariants.{Nothing, Child, Oversized}
 
 -- The terms that the cells from p up to `end` hold, after the eliminations.
-abbrev pub range_after : List ℕ → List ℕ → List ℕ → List ℕ → ℕ → ℕ → ℕ → Terms
+abbrev pub range_after : List ℕ → List ℕ → Places → List ℕ → ℕ → ℕ → ℕ → Terms
 range_after ar cells bs trail n p end = applys (elims ar cells bs trail n) (within ar cells p end)
 
 -- The literals as terms: those before the selected one, those after it, and the clause's body from place `body` on.
-abbrev pub literals_after : List ℕ → List ℕ → List ℕ → List ℕ → ℕ → Call → ℕ → Terms
+abbrev pub literals_after : List ℕ → List ℕ → Places → List ℕ → ℕ → Call → ℕ → Terms
 literals_after ar cells bs trail n call body =
     range_after ar cells bs trail n call.answers call.s +++ (range_after ar cells bs trail n call.e call.len +++ range_after ar cells bs trail n body (length cells))
 
@@ -33,7 +33,7 @@ pub record Ranges (cells : List ℕ) (call : Call) (body : ℕ) : Type 0 where
   pub clause : body ≤ length cells
 
 -- The answer terms and the literals are written from place 2 on, with how many cells are the answer terms'; or they do not fit.
-abbrev pub GoalWritten : List ℕ → List ℕ → ℕ → Terms → Terms → List ℕ → List ℕ → List ℕ → ℕ → Result (ℕ × ℕ) Full → Type 0
+abbrev pub GoalWritten : List ℕ → List ℕ → ℕ → Terms → Terms → List ℕ → List (Option ℕ) → List ℕ → ℕ → Result (ℕ × ℕ) Full → Type 0
 GoalWritten out order m ans ls out' names' order' m' (Ok x) = (x.1 ≡ sizes ans) × Wrote out order 2 m (ans +++ ls) out' names' order' m' (Ok x.0)
 GoalWritten out order m ans ls out' names' order' m' (Err why) = Wrote out order 2 m (ans +++ ls) out' names' order' m' (Err why)
 

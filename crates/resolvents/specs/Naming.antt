@@ -1,5 +1,5 @@
 -- Variables named in order of first appearance, and what writing terms under these names leaves.
-use Rattle.std.specs.Prelude.{ℕ, ◌+◌, ◌≤◌, ◌<◌, ◌≡◌, true, false, List, [], length, get_or, take, Result, Ok, Err}
+use Rattle.std.specs.Prelude.{ℕ, ◌+◌, ◌≤◌, ◌<◌, ◌≡◌, true, false, List, [], length, get_or, take, count_by, is_none, Option, Some, None, Result, Ok, Err}
 use Rattle.std.proofs.Math.Seq.{slice}
 use Rattle.std.proofs.lemmas.List.Edits.{sets}
 use Rattle.rules.specs.Terms.{Terms, sizes, vars_terms, renames}
@@ -8,7 +8,7 @@ use Rattle.rules.specs.Cells.{write_terms}
 use Rattle.rules.specs.Goals.{member, appearing, position}
 use Rattle.matching.specs.Taking.{take_t}
 use Rattle.matching.specs.Cells.{reads}
-use Rattle.matching.specs.Bindings.{elims, alone, unbound}
+use Rattle.matching.specs.Bindings.{Places, elims, alone}
 use Rattle.matching.specs.declared.bindings.Bound.{Bound}
 use Rattle.resolvents.specs.declared.put.Full.{Full}
 
@@ -17,7 +17,7 @@ abbrev pub within : List ℕ → List ℕ → ℕ → ℕ → Terms
 within ar cells p end = reads ar (slice p end cells)
 
 -- The first k of them after the eliminations.
-abbrev pub shown : List ℕ → List ℕ → List ℕ → List ℕ → ℕ → ℕ → ℕ → ℕ → Terms
+abbrev pub shown : List ℕ → List ℕ → Places → List ℕ → ℕ → ℕ → ℕ → ℕ → Terms
 shown ar cells bs trail n p end k = applys (elims ar cells bs trail n) (take_t k (within ar cells p end))
 
 -- The same by the bindings b: the first k of the terms from p up to `end`; all of them; the term at p.
@@ -30,23 +30,22 @@ all_by b p end = applys (elims b.terms.symbols.now b.terms.cells.now b.table.now
 abbrev pub alone_by : Bound → ℕ → Terms
 alone_by b p = alone b.terms.symbols.now b.terms.cells.now b.table.now.bind b.table.now.trail b.table.now.bound p
 
--- The number of v among the variables xs: its position, or 65,535 where it is none of them.
-unfoldable pub name_in : List ℕ → ℕ → ℕ
-name_in xs v = elim (member v xs) [ true ↦ position xs v | false ↦ 65535 ]
+-- The number of v among the variables xs: its position, or None where it is none of them.
+unfoldable pub name_in : List ℕ → ℕ → Option ℕ
+name_in xs v = elim (member v xs) [ true ↦ Some (position xs v) | false ↦ None ]
+
+-- How many variables have no number.
+abbrev pub unnamed : List (Option ℕ) → ℕ
+unnamed names = count_by is_none names
 
 -- The first m variables of `order` are named, and `names` has the number of each variable. As many entries are in use as are named.
-pub record Named (names order : List ℕ) (m : ℕ) : Type 0 where
+pub record Named (names : List (Option ℕ)) (order : List ℕ) (m : ℕ) : Type 0 where
   pub narrow : length names ≤ 32768
   pub room : length names ≤ length order
-  pub counted : m + unbound names ≡ length names
+  pub counted : m + unnamed names ≡ length names
   pub listed : (i : ℕ) → i < m → get_or order i 0 < length names
-  pub given : (v : ℕ) → v < length names → get_or names v 0 ≡ name_in (take m order) v
-  pub numbered : (i : ℕ) → i < m → get_or names (get_or order i 0) 0 ≡ i
-
--- v is named: its number is k
-pub record Numbered (names : List ℕ) (v k : ℕ) : Type 0 where
-  pub taken : get_or names v 0 ≡ 65535 → ⊥
-  pub is : k ≡ get_or names v 0
+  pub given : (v : ℕ) → v < length names → get_or names v None ≡ name_in (take m order) v
+  pub numbered : (i : ℕ) → i < m → get_or names (get_or order i 0) None ≡ Some i
 
 -- The variables named after the terms ts: xs, and then those that are new, in order of first appearance.
 abbrev pub order_after : List ℕ → Terms → List ℕ
@@ -62,6 +61,6 @@ PutTells out order to m ts out' order' m' (Ok e) =
     (e ≡ to + sizes ts) × (e ≤ length out) × (take m' order' ≡ order_after (take m order) ts) × (out' ≡ sets out to (cells_under (order_after (take m order) ts) ts))
 PutTells out order to m ts out' order' m' (Err why) = length out < to + sizes ts
 
-pub record Wrote (out order : List ℕ) (to m : ℕ) (ts : Terms) (out' names' order' : List ℕ) (m' : ℕ) (r : Result ℕ Full) : Type 0 where
+pub record Wrote (out order : List ℕ) (to m : ℕ) (ts : Terms) (out' : List ℕ) (names' : List (Option ℕ)) (order' : List ℕ) (m' : ℕ) (r : Result ℕ Full) : Type 0 where
   pub tells : PutTells out order to m ts out' order' m' r
   pub kept : Named names' order' m'

@@ -1,21 +1,17 @@
 // Writing terms as they are after a matching, with new variable numbers in order of first appearance.
-ghost use Rattle.std.specs.Prelude.{◌≡◌, ◌+◌, ◌≤◌, ◌<◌, length, get_or, IsNone, IfSome, Ok};
+ghost use Rattle.std.specs.Prelude.{◌≡◌, ◌+◌, ◌≤◌, ◌<◌, length, Ok};
 ghost use Rattle.rules.specs.Terms.{var, nil, cons};
-ghost use Rattle.resolvents.specs.Naming.{Named, Numbered, Wrote, first_by, all_by, alone_by};
+ghost use Rattle.resolvents.specs.Naming.{Named, Wrote, first_by, all_by, alone_by};
 
 use matching::bindings::Bound;
 use matching::cells::VARIABLE;
 
-// No variable has this number, since they are fewer.
-const UNNAMED: u16 = u16::MAX;
-
-// The words of the goal that is written; the number of each of 1,280 variables, or UNNAMED; and the variables that have a number, in order:
+// The words of the goal that is written; the number of each of 1,280 variables, if it has one; and the variables that have a number, in order:
 // the first `named` entries.
 #[derive(Drop)]
 pub struct Draft {
     pub child: [u16; 1024],
-    // With `Option<u16>`, as at matching's `Table`: as many entries, and 2,490 instructions more.
-    pub names: [u16; 1280],
+    pub names: [Option<u16>; 1280],
     // The kit's `ArrayVec` has the same two fields as `order` and `named`: a crate more, for one push.
     pub order: [u16; 1280],
     pub named: usize,
@@ -33,23 +29,9 @@ impl Draft {
     {
         Draft {
             child: [0; 1024],
-            names: [UNNAMED; 1280],
+            names: [None; 1280],
             order: [0; 1280],
             named: 0,
-        }
-    }
-
-    // The number of the variable v.
-    fn number(&self, v: u16) -> Option<u16>
-        requires { v < length self.now.names }
-        ensures none { IsNone result → get_or self.now.names v 0 ≡ 65535 }
-        ensures some { IfSome result (Numbered self.now.names v) }
-    {
-        let number = self.names[usize::from(v)];
-        if number == UNNAMED {
-            None
-        } else {
-            Some(number)
         }
     }
 
@@ -59,12 +41,12 @@ impl Draft {
         requires to_in_bounds { to < length self.old.child }
         ensures { Wrote self.old.child self.old.order to self.old.named (cons (var v) nil) self.new.child self.new.names self.new.order self.new.named (Ok (to + 1)) }
     {
-        if let Some(k) = self.number(v) {
-            self.child[to] = VARIABLE + k;
+        if let Some(number) = self.names[usize::from(v)] {
+            self.child[to] = VARIABLE + number;
             return;
         }
         let number = self.named as u16;
-        self.names[usize::from(v)] = number;
+        self.names[usize::from(v)] = Some(number);
         self.order[self.named] = v;
         self.child[to] = VARIABLE + number;
         self.named += 1;
@@ -147,7 +129,7 @@ impl Draft {
         ensures child_unchanged { self.new.child ≡ self.old.child }
     {
         for &v in self.order[..self.named].iter().rev() {
-            self.names[usize::from(v)] = UNNAMED;
+            self.names[usize::from(v)] = None;
         }
         self.named = 0;
     }

@@ -18,7 +18,7 @@ use crate::put::{Draft, Full};
 use crate::workspace::Workspace;
 use matching::bindings::{Bound, Table};
 use matching::cells::{FlatTerms, VARIABLE, arity_of};
-use matching::unify::{Failure, unify_terms};
+use matching::unify::{Outcome, unify_terms};
 
 // No derived goal; the number of its words; or it is over 1,024 words. `Nothing` is no `None`, since this stands in an `Option` already, and
 // `Option<(Option<Result<usize, Full>>, u32)>` leaves a reader to find out which `None` is which.
@@ -129,22 +129,18 @@ fn resolve_cells(
     let terms = FlatTerms { cells, symbols };
     let s = call.s;
     let len = call.len;
-    match unify_terms(&terms, table, left, s + 1, len + 1, number) {
-        Ok(rest) => {
+    let tried = match unify_terms(&terms, table, left, s + 1, len + 1, number) {
+        Outcome::Unified(rest) => {
             let body = terms.skip(len);
             let bound = Bound { terms, table };
             let written = Origin { bound, call, body }.write_child(draft);
-            table.undo();
             Some((written, rest))
         }
-        Err(why) => {
-            table.undo();
-            match why {
-                Failure::Failed(rest) => Some((Resolved::Nothing, rest)),
-                Failure::Broken => None,
-            }
-        }
-    }
+        Outcome::Failed(rest) => Some((Resolved::Nothing, rest)),
+        Outcome::Broken => None,
+    };
+    table.undo();
+    tried
 }
 
 // The derived goal of the call and a clause, with at most `left` equations, and what is left after those of the unification; or the

@@ -1,4 +1,4 @@
-// The token at a place of a text.
+// The token at a place of a text. Text and place stay two parameters: `Tokens` has both, with the bound, but each call here would make one anew.
 ghost use Rattle.std.specs.Prelude.{◌≡◌, ◌+◌, ◌-◌, ◌≤◌, ◌<◌, ◌⊎◌, length, get_or, take, drop, min};
 ghost use Rattle.std.specs.List.{prefix_len};
 ghost use Rattle.text_rules.specs.TextTokens.{space, is_class, letter, zero_digit, digit, underscore, colon, class_of, word_byte, digit_byte, longest, numeral, value};

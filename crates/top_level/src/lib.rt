@@ -12,7 +12,7 @@ ghost use Rattle.goals.specs.Store.{Holding, mark_of};
 ghost use Rattle.top_level.specs.Top.{Stored, SomeStored, Written, SomeWritten, Queries, SomeQuery, Ordered, Topped, Started, Goes, SomeGoes, Bare, SomeBare, Stepped, SomeStepped, Follows, Due, Stops, SomeStops, opening, SomeOpening, InOrder, end_of};
 
 use clauses::Clauses;
-use goals::Mark;
+use goals::{MARK, Mark};
 use levels::{Account, Halt, Turn, take_step};
 use report::{Report, Stop};
 use resolvents::fresh::variables;
@@ -20,9 +20,6 @@ use resolvents::workspace::Workspace;
 
 // The cell of the first variable; those of the others follow it. Written here too: this crate does not stand on `matching`.
 const VARIABLE: usize = 32768;
-
-// A goal's first word is its number of words plus its mark times this.
-const MARK: u16 = 4096;
 
 // The numbers of pending and parked goals.
 #[derive(Clone, Copy, Debug, PartialEq, Eq)]

@@ -3,3 +3,4 @@ pub mod LiteralLaws
 pub mod LengthLaws
 pub mod DeckLaws
 pub mod PublicWriting
+pub mod SumLaws

@@ -2,11 +2,10 @@
 -- Assumes nothing.
 use Prim.Native.Nat.{◌-◌}
 use native.Mathlib.Omega.{arith}
-use Rattle.std.proofs.lemmas.Result.{err_from_is_err_and}
 use Rattle.matching.specs.Cells.{from}
 use Rattle.matching.specs.Bindings.{elims}
 use Rattle.matching.proofs.SeenLaws.{opened, first-inside, args-enough, final-free, below}
-use Rattle.matching.proofs.RanLaws.{args-there, args-fewer, pair-differ, pair-right, pair_same, pair_left, ran-one, ran-none, ran-fails, ran_out, ran-args, none_left, first-fewer, rest-fewer, ran-rest, ran-error}
+use Rattle.matching.proofs.RanLaws.{args-there, args-fewer, pair-differ, pair-right, pair_same, pair_left, ran-one, ran-none, ran-fails, ran_out, ran-args, none_left, first-fewer, rest-fewer, ran-rest, ran-stop, ran-break}
 use Rattle.matching.proofs.unify.+pair_pairs.Goals as goal
 
 pub pair-returns-then-left-eq0 : goal.pair-returns-then-left-eq0
@@ -96,18 +95,23 @@ pub pairs-pairs-requires : goal.pairs-pairs-requires
 pairs-pairs-requires t c =
     let left = opened c.if-number-eq0.false c.requires.left_bound c.resolve-a.ensures in
     let right = opened c.if-number-eq0.false c.requires.right_bound c.resolve-b.ensures in
-    let w = c.in_ok-rest.ensures in
+    let w = c.in-Unified.ensures in
     (below c.decreases (rest-fewer left right w c.after_first-p_next.ensures c.after_first-q_next.ensures), (w.state, (c.after_first-p_next.ensures.enough, c.after_first-q_next.ensures.enough)))
 
-pub pairs-returns : goal.pairs-returns
-pairs-returns t c =
+pub pairs-returns-in-Unified : goal.pairs-returns-in-Unified
+pairs-returns-in-Unified t c =
     let left = opened c.if-number-eq0.false c.requires.left_bound c.resolve-a.ensures in
     let right = opened c.if-number-eq0.false c.requires.right_bound c.resolve-b.ensures in
-    ran-rest left right c.in_ok-rest.ensures c.after_first-p_next.ensures c.after_first-q_next.ensures c.pairs.ensures
+    ran-rest left right c.in-Unified.ensures c.after_first-p_next.ensures c.after_first-q_next.ensures c.pairs.ensures
 
-pub pairs-returns-in_err-rest : goal.pairs-returns-in_err-rest
-pairs-returns-in_err-rest t c =
+pub pairs-returns-in-Failed : goal.pairs-returns-in-Failed
+pairs-returns-in-Failed t c =
     let left = opened c.if-number-eq0.false c.requires.left_bound c.resolve-a.ensures in
     let right = opened c.if-number-eq0.false c.requires.right_bound c.resolve-b.ensures in
-    let p = err_from_is_err_and c.from_residual.result c.from_residual.ensures.1 in
-    rw (p.1, p.2) (ran-error left right _ c.in_err-rest.ensures)
+    ran-stop left right c.in-Failed.ensures
+
+pub pairs-returns-in-Broken : goal.pairs-returns-in-Broken
+pairs-returns-in-Broken t c =
+    let left = opened c.if-number-eq0.false c.requires.left_bound c.resolve-a.ensures in
+    let right = opened c.if-number-eq0.false c.requires.right_bound c.resolve-b.ensures in
+    ran-break left right c.in-Broken.ensures

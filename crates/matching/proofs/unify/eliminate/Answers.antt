@@ -4,12 +4,13 @@ use mathlib.Core.List.{List}
 use Prim.Native.Nat.{ℕ, ◌+◌, ◌<◌}
 use native.Mathlib.Omega.{arith}
 use lib.ListN.{length, set}
-use Rattle.std.specs.Prelude.{Ok}
 use Rattle.rules.specs.Terms.{occ}
+use Rattle.std.specs.Prelude.{Some}
 use Rattle.matching.specs.Bindings.{value, Free, Final, Checking, Occurs}
 use Rattle.matching.specs.Tables.{Same}
 use Rattle.matching.specs.Outcomes.{RanVariable}
 use Rattle.matching.specs.declared.bindings.Table.{Table}
+use Rattle.matching.specs.declared.unify.Outcome.TheVariants.{Unified}
 use Rattle.matching.proofs.OccursLaws.{checking-start, occurs-by}
 use Rattle.matching.proofs.BindLaws.{free-room, eliminate-fails, eliminate-binds}
 use Rattle.matching.proofs.unify.eliminate.Goals as goal
@@ -22,7 +23,7 @@ module _ {ar cells : List ℕ} (t t' : Table) {v : ℕ} (same : Same t t') (c : 
   trail-room : t'.bound < length t'.trail
   trail-room = rw (same.trail, same.bound) (free-room c.state.good u)
 
-  binds : {p : ℕ} (rest : ℕ) → Final cells t.bind p → Occurs (occ v (value ar cells t.bind t.trail t.bound p)) false → RanVariable ar cells t.bind t.trail t.bound v p rest (set t'.bind v p) (set t'.trail t'.bound v) t'.marks (t'.bound + 1) (Ok rest)
+  binds : {p : ℕ} (rest : ℕ) → Final cells t.bind p → Occurs (occ v (value ar cells t.bind t.trail t.bound p)) false → RanVariable ar cells t.bind t.trail t.bound v p rest (set t'.bind v (Some p)) (set t'.trail t'.bound v) t'.marks (t'.bound + 1) (Unified rest)
   binds {p} rest f o = rw (same.bind, same.trail, same.bound) (eliminate-binds c u f rest o)
 
 pub occurs-found-requires : goal.occurs-found-requires

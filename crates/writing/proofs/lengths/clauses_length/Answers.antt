@@ -7,11 +7,11 @@ use Rattle.text_rules.specs.TextWriter.{clauses_text}
 use Rattle.std.specs.Prelude.{sum_by}
 use Rattle.std.specs.List.{range_with_len}
 use Rattle.std.proofs.Common.{rules}
-use Rattle.std.proofs.lemmas.Iterator.{YieldsList-from_range, YieldsList-from_map, serves_from_Range}
-use Rattle.std.proofs.lemmas.Iterator.Consumers.{sum_by_from_yields_List, fits_by_from_yields_list}
+use Rattle.std.proofs.lemmas.Iterator.{serves_from_Range}
 use Rattle.writing.specs.Writes.{deck_of}
 use Rattle.writing.specs.Lengths.{clause_bytes_at}
 use Rattle.writing.proofs.DeckLaws.{clause-count, few-clauses, clauses-sum}
+use Rattle.writing.proofs.SumLaws.{range-fits, range-sum}
 use Rattle.writing.proofs.lengths.clauses_length.Goals as goal
 use Rattle.writing.proofs.lengths.clauses_length.Goals.{After-clause_count}
 
@@ -31,20 +31,11 @@ sum-requires-clause-can c = (tt, serves_from_Range (λ x q k. search rules) (λ 
 
 pub sum-requires-clause-fits : goal.sum-requires-clause-fits
 sum-requires-clause-fits c =
-    let h = clause_bytes_at c.args.deck.now.words.now in
-    let n = c.clause_count.result in
     let t = total (goal.at.sum-requires-clause-fits c).After-clause_count in
-    fits_by_from_yields_list h (range_with_len 0 n) _ _
-    (YieldsList-from_map _ h (YieldsList-from_range 0 n n c.map.ensures.source (omega arith)) c.map.ensures.closure (λ x r q k. search rules))
-    (omega (arith, t.0, t.1))
+    range-fits _ (clause_bytes_at c.args.deck.now.words.now) (c.clause_count.result) c.map.ensures.source c.map.ensures.closure (λ x r q k. search rules) _ (omega (arith, t.0, t.1))
 
 pub returns : goal.returns
 returns c =
-    let h = clause_bytes_at c.args.deck.now.words.now in
-    let n = c.clause_count.result in
     let t = total (goal.at.returns c).After-clause_count in
-    let s =
-    sum_by_from_yields_List h (range_with_len 0 n) _ _ c.sum.ensures.ran
-    (YieldsList-from_map _ h (YieldsList-from_range 0 n n c.map.ensures.source (omega arith)) c.map.ensures.closure (λ x r q k. search rules))
-    in
+    let s = range-sum _ (clause_bytes_at c.args.deck.now.words.now) (c.clause_count.result) c.map.ensures.source c.map.ensures.closure (λ x r q k. search rules) _ c.sum.ensures.ran in
     (s ∙ t.0, omega (arith, s, t.0, t.1))

@@ -7,12 +7,12 @@ use lib.ListN.{length}
 use Rattle.std.specs.Prelude.{sum_by}
 use Rattle.std.specs.List.{range_with_len}
 use Rattle.std.proofs.Common.{rules}
-use Rattle.std.proofs.lemmas.Iterator.{YieldsList-from_range, YieldsList-from_map, serves_from_Range}
-use Rattle.std.proofs.lemmas.Iterator.Consumers.{sum_by_from_yields_List, fits_by_from_yields_list}
+use Rattle.std.proofs.lemmas.Iterator.{serves_from_Range}
 use Rattle.text_rules.specs.TextWriter.{symbols_text}
 use Rattle.writing.specs.Writes.{symbols_in}
 use Rattle.writing.specs.Lengths.{symbol_bytes_at}
 use Rattle.writing.proofs.DeckLaws.{few-symbols, symbols-sum}
+use Rattle.writing.proofs.SumLaws.{range-fits, range-sum}
 use Rattle.writing.proofs.lengths.symbols_length.Goals as goal
 use Rattle.writing.proofs.lengths.symbols_length.Goals.{After-symbols}
 
@@ -32,20 +32,11 @@ sum-requires-clause-can c = (tt, serves_from_Range (λ x q k. search rules) (λ 
 
 pub sum-requires-clause-fits : goal.sum-requires-clause-fits
 sum-requires-clause-fits c =
-    let h = symbol_bytes_at c.args.deck.now.words.now in
-    let n = length c.symbols.result.now in
     let t = total (goal.at.sum-requires-clause-fits c).After-symbols in
-    fits_by_from_yields_list h (range_with_len 0 n) _ _
-    (YieldsList-from_map _ h (YieldsList-from_range 0 n n c.map.ensures.source (omega arith)) c.map.ensures.closure (λ x r q k. search rules))
-    (omega (arith, t.0, t.1))
+    range-fits _ (symbol_bytes_at c.args.deck.now.words.now) (length c.symbols.result.now) c.map.ensures.source c.map.ensures.closure (λ x r q k. search rules) _ (omega (arith, t.0, t.1))
 
 pub returns : goal.returns
 returns c =
-    let h = symbol_bytes_at c.args.deck.now.words.now in
-    let n = length c.symbols.result.now in
     let t = total (goal.at.returns c).After-symbols in
-    let s =
-    sum_by_from_yields_List h (range_with_len 0 n) _ _ c.sum.ensures.ran
-    (YieldsList-from_map _ h (YieldsList-from_range 0 n n c.map.ensures.source (omega arith)) c.map.ensures.closure (λ x r q k. search rules))
-    in
+    let s = range-sum _ (symbol_bytes_at c.args.deck.now.words.now) (length c.symbols.result.now) c.map.ensures.source c.map.ensures.closure (λ x r q k. search rules) _ c.sum.ensures.ran in
     (s ∙ t.0, omega (arith, s, t.0, t.1))

@@ -13,7 +13,6 @@ use Rattle.drill.specs.Successors.{nonempty, Sought}
 use Rattle.drill.proofs.TableLaws.{filled-one, filled_more, filled_known}
 use Rattle.drill.proofs.WordLaws.{entry-sought}
 use Rattle.drill.proofs.table.Row.next.Goals as goal
-use Rattle.drill.proofs.table.Row.next.Goals.{else-loop-k-test, then-loop-k-test+else-k-m}
 
 -- The entry of k places that m + 1 cells fill.
 entry-of : (S : List Symbol) (m k : ℕ) → 1 ≤ k → (r : Option ℕ) → Sought S m (k - 1) 0 r → is_some r ≡ nonempty (fillings S (m + 1) k)
@@ -29,12 +28,10 @@ loop-k-preserved c =
     let S = symbols_of c.args.self.now.symbols.now in
     filled_more c.loop-k.invariant c.is_some.result (omega arith) (c.is_some.ensures ∙ entry-of S c.args.self.now.m c.loop-k.k (omega arith) c.seek.result c.seek.ensures)
 
-pub invariant_of-result-clause-known : goal.invariant_of-result-clause-known
-invariant_of-result-clause-known c =
+pub returns : goal.returns
+returns c = filled_known c.loop-k.invariant (omega (arith, c.loop-k-test.false))
+
+pub returns-2 : goal.returns-2
+returns-2 c =
     let S = symbols_of c.args.self.now.symbols.now in
-    let f = c.loop-k.invariant in
-    elim c.loop-k-test.branch [
-      | else-loop-k-test w ↦ rw w.fillable-is (filled_known f (omega (arith, w.loop-k-test.false)))
-      | then-loop-k-test+else-k-m w ↦
-          rw w.fillable-is (filled_known (filled_more f w.is_some.result (omega arith) (w.is_some.ensures ∙ entry-of S c.args.self.now.m c.loop-k.k (omega arith) w.seek.result w.seek.ensures)) (omega arith))
-    ]
+    filled_known (filled_more c.loop-k.invariant c.is_some.result (omega arith) (c.is_some.ensures ∙ entry-of S c.args.self.now.m c.loop-k.k (omega arith) c.seek.result c.seek.ensures)) (omega arith)

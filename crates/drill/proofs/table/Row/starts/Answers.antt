@@ -22,4 +22,4 @@ returns c =
     let s = c.args.self.now in
     let p : is_predicate s.symbols.now c.args.f ≡ false = sym c.is_predicate.ensures ∙ c.if-is_predicate.false in
     rw c.arity-arity.ensures
-    (starts-row s.symbols.now s.fillable s.m c.args.k c.args.f c.requires.1 p s.known s.small (omega (arith, c.if-self-arity.false, c.arity-arity.ensures)))
+    (starts-row s.symbols.now s.fillable.now s.m c.args.k c.args.f c.requires.1 p s.known s.small (omega (arith, c.if-self-arity.false, c.arity-arity.ensures)))
