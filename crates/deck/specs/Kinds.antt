@@ -1,5 +1,5 @@
 -- What the code takes symbol words and cells for.
-use Rattle.std.specs.Prelude.{ℕ, ◌%◌, true, false, List, map, leb}
+use Rattle.std.specs.Prelude.{ℕ, ◌%◌, Bool, true, false, List, map, leb}
 use Rattle.rules.specs.Syntax.{Symbol, functor, predicate}
 use Rattle.rules.specs.Cells.{Cell, variable, function, positive, negative, invalid}
 use Rattle.deck.specs.declared.kinds.Kind.{Kind}
@@ -19,3 +19,11 @@ kind_of (function f k) = Function k
 kind_of (positive p k) = Positive k
 kind_of (negative p k) = Negative k
 kind_of invalid = Invalid
+
+-- Whether a literal begins with a cell.
+abbrev pub begins_literal : Kind → Bool
+begins_literal (Variable v) = false
+begins_literal (Function k) = false
+begins_literal (Positive k) = true
+begins_literal (Negative k) = true
+begins_literal Invalid = false

@@ -4,6 +4,7 @@ ghost use Rattle.rules.specs.Decks.{header_fits};
 
 // Format, number of symbols S, symbol offset, number of clauses C, clause offset, number of term cells T, term offset, total words:
 // the offsets and the total follow from the three numbers, and the total is the length, at most 16,384.
+// Tests one after another: as one expression with `&&` its proof is a case for each of them.
 #[tactic(auto, using(crate::proofs::HeaderLaws::header_or_not))]
 pub fn fit(deck: &[u16]) -> bool
     ensures { result ≡ header_fits deck.now }

@@ -2,7 +2,7 @@
 ghost use Rattle.std.specs.Prelude.{◌≡◌};
 ghost use Rattle.std.proofs.Math.ListN.{get_elem?};
 ghost use Rattle.rules.specs.Cells.{read_cell, symbol_cell, negated_cell};
-ghost use Rattle.deck.specs.Kinds.{symbols_of, kind_of};
+ghost use Rattle.deck.specs.Kinds.{symbols_of, kind_of, begins_literal};
 
 // A variable with its number; a functor, a predicate, a negated predicate with its arity; or no cell, a kind as in the rules' cells.
 #[derive(Clone, Copy, Debug, PartialEq, Eq)]
@@ -14,6 +14,16 @@ pub enum Kind {
     Invalid,
 }
 
+impl Kind {
+    // Whether a literal begins with the cell.
+    pub fn begins_literal(self) -> bool
+        ensures { result ≡ begins_literal self }
+    {
+        matches!(self, Kind::Positive(_) | Kind::Negative(_))
+    }
+}
+
+// The numbers are the format's (document 01), as in the rules' `read_cell`.
 pub fn read(symbols: &[u16], cell: u16) -> Kind
     ensures { result ≡ kind_of (read_cell (symbols_of symbols.now) cell) }
 {

@@ -18,22 +18,18 @@ fn step(kind: Kind, len: usize, at: usize, todo: usize, next: usize) -> Option<(
     let room = len - at - 1;
     match kind {
         Kind::Variable(v) => {
-            if todo == 0 {
-                return None;
-            }
+            let rest = todo.checked_sub(1)?;
             if next < v {
                 return None;
             }
-            Some((todo - 1, next.max(v + 1)))
+            Some((rest, next.max(v + 1)))
         }
         Kind::Function(k) => {
-            if todo == 0 {
+            let rest = todo.checked_sub(1)?;
+            if room - rest < k {
                 return None;
             }
-            if room - (todo - 1) < k {
-                return None;
-            }
-            Some((k + (todo - 1), next))
+            Some((k + rest, next))
         }
         Kind::Positive(k) | Kind::Negative(k) => predicate(k, room, todo, next),
         Kind::Invalid => None,

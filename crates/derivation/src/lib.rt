@@ -55,7 +55,7 @@ pub fn derive(
     let n = variables(cells);
     let first = call.first_symbol(clauses.symbols(), cells);
     let attempt = Attempt { call, n, first };
-    // Restored in each way out: a closure for it would hold the store, which is read and written between.
+    // Restored in each way out that keeps the goal: a closure for it would hold the store, which is read and written between.
     let Some(derived) = put_children(clauses, store, base, attempt, left - 1, work) else {
         restore(store, held, work.goal(call.len), call.answers);
         return Err(Stop::Budget);

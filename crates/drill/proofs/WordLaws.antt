@@ -77,23 +77,25 @@ module _ (ws cells : List ℕ) (i k : ℕ) (inside : i < length cells) where
   unfolding fills
   fills-closed e = rw (e, split)
 
-  fills-by : (o : Option Symbol) → get_elem? (symbols_of ws) (get_or cells i 0) ≡ o → 1 ≤ k → fills (symbols_of ws) k (drop i cells) ≡ fills_from o (λ a. rest (a + (k - 1)))
-  unfolding fills
-  fills-by o e h =
-      let p : k ≡ suc (k - 1) = omega arith in
-      ap₂ (fills (symbols_of ws)) p split ∙ ap (λ x. fills_from x (λ a. rest (a + (k - 1)))) e
+  -- A cell as the code has it.
+  module _ (f : ℕ) (cell : f ≡ get_or cells i 0) (some-places : 1 ≤ k) where
+    fills-by : (o : Option Symbol) → get_elem? (symbols_of ws) f ≡ o → fills (symbols_of ws) k (drop i cells) ≡ fills_from o (λ a. rest (a + (k - 1)))
+    unfolding fills
+    fills-by o e =
+        let p : k ≡ suc (k - 1) = omega arith in
+        ap₂ (fills (symbols_of ws)) p split ∙ ap (λ x. fills_from x (λ a. rest (a + (k - 1)))) (ap (get_elem? (symbols_of ws)) (sym cell) ∙ e)
 
-  pub fills-unknown : 1 ≤ k → symbol_count ws ≤ get_or cells i 0 → fills (symbols_of ws) k (drop i cells) ≡ false
-  unfolding fills_from
-  fills-unknown h l = fills-by none (symbol-past ws (get_or cells i 0) l) h
+    pub fills-unknown : symbol_count ws ≤ f → fills (symbols_of ws) k (drop i cells) ≡ false
+    unfolding fills_from
+    fills-unknown l = fills-by none (symbol-past ws f l)
 
-  pub fills-predicate : 1 ≤ k → get_or cells i 0 < symbol_count ws → is_predicate ws (get_or cells i 0) ≡ true → fills (symbols_of ws) k (drop i cells) ≡ false
-  unfolding fills_from
-  fills-predicate h l p = fills-by (some (predicate (word_arity ws (get_or cells i 0)))) (predicate-at ws (get_or cells i 0) l p) h
+    pub fills-predicate : f < symbol_count ws → is_predicate ws f ≡ true → fills (symbols_of ws) k (drop i cells) ≡ false
+    unfolding fills_from
+    fills-predicate l p = fills-by (some (predicate (word_arity ws f))) (predicate-at ws f l p)
 
-  pub fills-functor : 1 ≤ k → get_or cells i 0 < symbol_count ws → is_predicate ws (get_or cells i 0) ≡ false → fills (symbols_of ws) k (drop i cells) ≡ rest (word_arity ws (get_or cells i 0) + (k - 1))
-  unfolding fills_from
-  fills-functor h l p = fills-by (some (functor (word_arity ws (get_or cells i 0)))) (functor-at ws (get_or cells i 0) l p) h
+    pub fills-functor : f < symbol_count ws → is_predicate ws f ≡ false → fills (symbols_of ws) k (drop i cells) ≡ rest (word_arity ws f + (k - 1))
+    unfolding fills_from
+    fills-functor l p = fills-by (some (functor (word_arity ws f))) (functor-at ws f l p)
 
 pub fills-end : (S : List Symbol) (cells : List ℕ) (i k : ℕ) → i ≡ length cells → fills S k (drop i cells) ≡ eqb k 0
 unfolding fills

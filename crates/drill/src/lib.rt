@@ -27,24 +27,24 @@ fn is_term(symbols: &[u16], cells: &[u16]) -> bool
     requires { length cells.now ≤ 8 }
     ensures { result ≡ fills (symbols_of symbols.now) 1 cells.now }
 {
-    let mut places = 1;
+    let mut places: usize = 1;
     for cell in cells {
         let f = usize::from(*cell);
-        if places == 0 {
+        let Some(rest) = places.checked_sub(1) else {
             return false;
-        }
+        };
         if signature::count(symbols) <= f {
             return false;
         }
         if signature::is_predicate(symbols, f) {
             return false;
         }
-        places = signature::arity(symbols, f) + (places - 1);
+        places = signature::arity(symbols, f) + rest;
     }
     places == 0
 }
 
-// Writes the terms, as many as fit whole; their number. Counted by hand: it is returned in two places, and `enumerate` has none after the last item.
+// Writes the terms, as many as fit whole; their number, which `leads_drill` tells. Counted by hand: it is returned in two places, and `enumerate` has none after the last item.
 fn write(terms: Terms, out: &mut [u16]) -> usize
     ensures number { result ≡ length (fitting (length out.old) (terms_left terms.entry)) }
     ensures list { out.new ≡ list_after (accepted (fitting (length out.old) (terms_left terms.entry))) out.old }
@@ -64,6 +64,7 @@ fn write(terms: Terms, out: &mut [u16]) -> usize
 }
 
 // Refusal 19 is not due: n is at most 8, and the given cells are none or a term of at most n cells.
+// Tests one after another: as one expression with `&&` its proof is a case for each of them.
 fn accepts(symbols: &[u16], n: usize, given: &[u16]) -> bool
     ensures { Accepts (symbols_of symbols.now) n given.now result }
 {
@@ -79,7 +80,7 @@ fn accepts(symbols: &[u16], n: usize, given: &[u16]) -> bool
     is_term(symbols, given)
 }
 
-// Writes the terms of at most n cells after the given one, as many as fit whole; their number.
+// Writes the terms of at most n cells after the given one, as many as fit whole; their number, which `leads_drill` tells.
 fn list(symbols: &[u16], n: usize, given: &[u16], out: &mut [u16]) -> usize
     requires { (length symbols.now ≤ 4096) × Given (symbols_of symbols.now) n given.now }
     ensures number { result ≡ length (fitting (length out.old) (rest_after (symbols_of symbols.now) n given.now)) }

@@ -1,7 +1,7 @@
 // A term without variables, as its cells.
 ghost use Rattle.std.specs.Prelude.{◌≤◌, ◌≡◌, length};
 
-// A term of at most 8 cells: the first `size` of them.
+// A term of at most 8 cells: the first `size` of them. The kit's `ArrayVec` has the same two fields: a crate more, for no push.
 #[derive(Clone, Copy)]
 pub struct Term {
     pub cells: [u16; 8],

@@ -50,7 +50,7 @@ pub writing-none :
 writing-none es f starts cells w e =
     record { walked = walk-none es w e; starts_length = refl; cells_length = refl; begun = ap (λ es. sets starts 0 (starts_from 0 es)) e; put = ap (λ es. sets cells 0 (map f es)) e }
 
-module _ (es : List Entry) (f : Entry → ℕ) (starts₀ cells₀ : List ℕ) (w : Entries) (s : Sizes) (starts cells : List ℕ) (d : Writing es f starts₀ cells₀ w s starts cells) where
+module _ {es : List Entry} {f : Entry → ℕ} {starts₀ cells₀ : List ℕ} {w : Entries} {s : Sizes} {starts cells : List ℕ} (d : Writing es f starts₀ cells₀ w s starts cells) where
   pub writing-end : (v : Entries) → Onward None w v → (starts ≡ sets starts₀ 0 (starts_from 0 es)) × (cells ≡ sets cells₀ 0 (map f es))
   unfolding starts_from
   writing-end v o =

@@ -108,24 +108,22 @@ module _ {ar cells : List ℕ} {bs : Places} {trail marks : List ℕ} {n a b : �
 
 -- 2. What it leaves.
 
-tells-tick : (o : Unification) → Found o → (left : ℕ) (before now' : Substitution) (r : Outcome) → Tells o (left - 1) before now' r → (left ≡ 0 → ⊥) → Tells (tick o) left before now' r
-tells-tick o f left before now' (Unified l) w z = (suc w.0, w.1, ap tick w.2, w.3, omega (arith, w.4))
-tells-tick o f left before now' (Failed l) w z = (suc w.0, ap tick w.1, omega (arith, w.2))
-tells-tick o f left before now' Broken w z = omega (arith, w, taken-tick o f)
+tells-tick : (o : Unification) → Found o → (rest left : ℕ) (before now' : Substitution) (r : Outcome) → Tells o rest before now' r → suc rest ≡ left → Tells (tick o) left before now' r
+tells-tick o f rest left before now' (Unified l) w z = (suc w.0, w.1, ap tick w.2, w.3, omega (arith, w.4))
+tells-tick o f rest left before now' (Failed l) w z = (suc w.0, ap tick w.1, omega (arith, w.2))
+tells-tick o f rest left before now' Broken w z = omega (arith, w, taken-tick o f)
 
 module _ {ar cells : List ℕ} {bs : Places} {trail : List ℕ} {n left : ℕ} where
   pub ran-by : {o o' : Unification} {bs' : Places} {trail' marks' : List ℕ} {n' : ℕ} {r : Outcome} → Ran ar cells bs trail n o left bs' trail' marks' n' r → o' ≡ o → Ran ar cells bs trail n o' left bs' trail' marks' n' r
   ran-by {bs' = bs'} {trail'} {marks'} {n'} {r} w e = subst (λ x. Ran ar cells bs trail n x left bs' trail' marks' n' r) (sym e) w
 
   -- one equation and none after it
-  pub ran-one : {o o' : Unification} {bs' : Places} {trail' marks' : List ℕ} {n' : ℕ} {r : Outcome} → Ran ar cells bs trail n o (suc (left - 1)) bs' trail' marks' n' r → (left ≡ 0 → ⊥) → o' ≡ o → Ran ar cells bs trail n o' left bs' trail' marks' n' r
-  ran-one {o} {bs' = bs'} {trail'} {marks'} {n'} {r} w z e =
-      let q : suc (left - 1) ≡ left = omega arith in
-      ran-by (subst (λ x. Ran ar cells bs trail n o x bs' trail' marks' n' r) q w) e
+  pub ran-one : {rest : ℕ} {o o' : Unification} {bs' : Places} {trail' marks' : List ℕ} {n' : ℕ} {r : Outcome} → Ran ar cells bs trail n o (suc rest) bs' trail' marks' n' r → suc rest ≡ left → o' ≡ o → Ran ar cells bs trail n o' left bs' trail' marks' n' r
+  ran-one {o = o} {bs' = bs'} {trail'} {marks'} {n'} {r} w z e = ran-by (subst (λ x. Ran ar cells bs trail n o x bs' trail' marks' n' r) z w) e
 
-  pub ran-tick : (ts us : Terms) {o' : Unification} {bs' : Places} {trail' marks' : List ℕ} {n' : ℕ} {r : Outcome} → Ran ar cells bs trail n (unify ts us) (left - 1) bs' trail' marks' n' r → (left ≡ 0 → ⊥) → o' ≡ tick (unify ts us) → Ran ar cells bs trail n o' left bs' trail' marks' n' r
-  ran-tick ts us {bs' = bs'} {trail'} {n' = n'} {r = r} w z e =
-      ran-by (record { state = w.state; tells = tells-tick (unify ts us) (unify-found ts us) left (elims ar cells bs trail n) (elims ar cells bs' trail' n') r w.tells z }) e
+  pub ran-tick : (rest : ℕ) (ts us : Terms) {o' : Unification} {bs' : Places} {trail' marks' : List ℕ} {n' : ℕ} {r : Outcome} → Ran ar cells bs trail n (unify ts us) rest bs' trail' marks' n' r → suc rest ≡ left → o' ≡ tick (unify ts us) → Ran ar cells bs trail n o' left bs' trail' marks' n' r
+  ran-tick rest ts us {bs' = bs'} {trail'} {n' = n'} {r = r} w z e =
+      ran-by (record { state = w.state; tells = tells-tick (unify ts us) (unify-found ts us) rest left (elims ar cells bs trail n) (elims ar cells bs' trail' n') r w.tells z }) e
 
   pub ran-none : {marks : List ℕ} {o : Unification} (k l : ℕ) → State ar cells bs trail marks n n → k + l ≡ left → o ≡ solved k done → Ran ar cells bs trail n o left bs trail marks n (Unified l)
   ran-none k l s q e = record { state = s; tells = (k, done, e, sym (substitutions-done (elims ar cells bs trail n)), q) }
@@ -138,8 +136,8 @@ module _ {ar cells : List ℕ} {bs : Places} {trail marks : List ℕ} {n a b lef
   pub ran_out : left ≡ 0 → Ran ar cells bs trail n (unify (alone ar cells bs trail n a) (alone ar cells bs trail n b)) left bs trail marks n Broken
   ran_out z = record { state = u.state; tells = omega (arith, taken-cons (value ar cells bs trail n a) (value ar cells bs trail n b) nil nil) }
 
-  pub ran-args : (k : ℕ) → k ≡ args_of ar (get_or cells a 0) → get_or cells a 0 < 32768 → get_or cells b 0 < 32768 → get_or cells a 0 ≡ get_or cells b 0 → {bs' : Places} {trail' marks' : List ℕ} {n' : ℕ} {r : Outcome} → Ran ar cells bs trail n (unify (seen ar cells bs trail n (a + 1) k) (seen ar cells bs trail n (b + 1) k)) (left - 1) bs' trail' marks' n' r → (left ≡ 0 → ⊥) → Ran ar cells bs trail n (unify (alone ar cells bs trail n a) (alone ar cells bs trail n b)) left bs' trail' marks' n' r
-  ran-args k e la lb q w z = ran-tick (seen ar cells bs trail n (a + 1) k) (seen ar cells bs trail n (b + 1) k) w z (pair-args u k e la lb q)
+  pub ran-args : (k : ℕ) → k ≡ args_of ar (get_or cells a 0) → get_or cells a 0 < 32768 → get_or cells b 0 < 32768 → get_or cells a 0 ≡ get_or cells b 0 → {rest : ℕ} {bs' : Places} {trail' marks' : List ℕ} {n' : ℕ} {r : Outcome} → Ran ar cells bs trail n (unify (seen ar cells bs trail n (a + 1) k) (seen ar cells bs trail n (b + 1) k)) rest bs' trail' marks' n' r → suc rest ≡ left → Ran ar cells bs trail n (unify (alone ar cells bs trail n a) (alone ar cells bs trail n b)) left bs' trail' marks' n' r
+  ran-args k e la lb q {rest} w z = ran-tick rest (seen ar cells bs trail n (a + 1) k) (seen ar cells bs trail n (b + 1) k) w z (pair-args u k e la lb q)
 
 -- no equation
 pub none_left : (es : Substitution) (ts us : Terms) (k : ℕ) → k ≡ 0 → unify (applys es (take_t k ts)) (applys es (take_t k us)) ≡ solved 0 done
@@ -176,11 +174,11 @@ module _ {ar cells : List ℕ} {bs : Places} {trail : List ℕ} {n p q k a b : �
   pub first-fewer : 2 * equations (unify (alone ar cells bs trail n a) (alone ar cells bs trail n b)) < 2 * equations (unify (seen ar cells bs trail n p k) (seen ar cells bs trail n q k)) + 1
   first-fewer = omega (arith, ap equations joined, taken_then (unify (alone ar cells bs trail n a) (alone ar cells bs trail n b)) ls rs (unify-found (alone ar cells bs trail n a) (alone ar cells bs trail n b)))
 
-  pub ran-stop : {bs₁ : Places} {trail₁ marks₁ : List ℕ} {m l left : ℕ} → Ran ar cells bs trail n (unify (alone ar cells bs trail n a) (alone ar cells bs trail n b)) left bs₁ trail₁ marks₁ m (Failed l) → Ran ar cells bs trail n (unify (seen ar cells bs trail n p k) (seen ar cells bs trail n q k)) left bs₁ trail₁ marks₁ m (Failed l)
-  ran-stop w = record { state = w.state; tells = (w.tells.0, joined ∙ ap (λ o. then o ls rs) w.tells.1, w.tells.2) }
-
-  pub ran-break : {bs₁ : Places} {trail₁ marks₁ : List ℕ} {m left : ℕ} → Ran ar cells bs trail n (unify (alone ar cells bs trail n a) (alone ar cells bs trail n b)) left bs₁ trail₁ marks₁ m Broken → Ran ar cells bs trail n (unify (seen ar cells bs trail n p k) (seen ar cells bs trail n q k)) left bs₁ trail₁ marks₁ m Broken
-  ran-break w = record { state = w.state; tells = omega (arith, w.tells, first-fewer) }
+  -- where the first is not unified, the others are not reached
+  pub ran-stop : {bs₁ : Places} {trail₁ marks₁ : List ℕ} {m left : ℕ} (r : Outcome) → ((l : ℕ) → r ≡ Unified l → ⊥) → Ran ar cells bs trail n (unify (alone ar cells bs trail n a) (alone ar cells bs trail n b)) left bs₁ trail₁ marks₁ m r → Ran ar cells bs trail n (unify (seen ar cells bs trail n p k) (seen ar cells bs trail n q k)) left bs₁ trail₁ marks₁ m r
+  ran-stop (Unified l) other w = absurd (other l refl)
+  ran-stop (Failed l) other w = record { state = w.state; tells = (w.tells.0, joined ∙ ap (λ o. then o ls rs) w.tells.1, w.tells.2) }
+  ran-stop Broken other w = record { state = w.state; tells = omega (arith, w.tells, first-fewer) }
 
   -- the others, at p' and q', after the eliminations of the first
   module _ {bs₁ : Places} {trail₁ marks₁ : List ℕ} {m l left : ℕ} (w : Ran ar cells bs trail n (unify (alone ar cells bs trail n a) (alone ar cells bs trail n b)) left bs₁ trail₁ marks₁ m (Unified l)) {p' q' : ℕ} (s : Next ar cells p k p') (t : Next ar cells q k q') where

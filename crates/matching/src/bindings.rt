@@ -62,7 +62,8 @@ impl Bound<'_> {
         ensures { Resolved self.now.terms.symbols.now self.now.terms.cells.now self.now.table.now.bind self.now.table.now.trail self.now.table.now.bound p result }
     {
         let mut at = p;
-        // Where a method gives an `Option` of the next place, in a `while let`, 65,536 equations take 1.08 ms; in this loop 0.99.
+        // No `while let` over a method that gives the next place: it would need a contract of its own, and 65,536 equations took 1.08 ms with
+        // it and 0.99 in this loop.
         loop {
             let c = self.terms.cells[at];
             if c < VARIABLE {

@@ -28,7 +28,8 @@ impl FlatTerms<'_> {
         arity_of(self.symbols, usize::from(self.cells[p]))
     }
 
-    // The place after the `number` terms at p.
+    // The place after the `number` terms at p. A recursion over the terms that are left, and no `for`: each place is found from the term
+    // before it.
     fn skip_terms(&self, p: usize, number: usize) -> usize
         requires { (p ≤ length self.now.cells.now) × (number ≤ count (from self.now.symbols.now self.now.cells.now p)) }
         ensures { Skipped self.now.symbols.now self.now.cells.now p number result }

@@ -1,7 +1,7 @@
 // The occurs check, document 01's test that a term contains a variable: the terms are taken as they
 // are after the replacements. A bound variable whose term was walked and does not contain it is
 // marked with one more than the number of bindings and not walked again, so that shared terms are
-// walked once.
+// walked once. A mark is a number and no `Option`: 0 is none, and a mark is only compared with the stamp, which is never 0.
 ghost use Rattle.std.specs.Prelude.{◌≡◌, true, ◌-◌, ◌≤◌, ◌<◌, length, get_or};
 ghost use Rattle.rules.specs.Terms.{occ, occs, count};
 ghost use Rattle.matching.specs.Cells.{from};
@@ -61,7 +61,8 @@ pub fn occurs(terms: &FlatTerms, table: &mut Table, v: u16, p: usize) -> bool
     false
 }
 
-// Whether the variable v occurs in one of the `number` terms at p.
+// Whether the variable v occurs in one of the `number` terms at p. A recursion over the terms that are left, and no `for`: each place is found
+// from the term before it.
 #[cycle(occurs_occurs_any)]
 fn occurs_any(terms: &FlatTerms, table: &mut Table, v: u16, p: usize, number: usize) -> bool
     requires checking { Checking terms.now.symbols.now terms.now.cells.now table.old.bind table.old.trail table.old.bound v table.old.marks }

@@ -15,7 +15,8 @@ use super::cells::{FlatTerms, VARIABLE};
 use super::occurs::occurs;
 
 // How a unification ended, with what is left after its equations, the failing one included. Or it was broken off, since it takes more
-// equations than were left. With `Result<u32, Failure>`, whose error holds a number too, `vast 15` takes 1.04 ms in place of 0.91.
+// equations than were left. With `Result<u32, Failure>`, whose error holds a number too, `vast 15` took 1.1 ms where the old enum took
+// 0.95; on another machine 1.04 and this 0.91.
 #[derive(Clone, Copy, Debug, PartialEq, Eq)]
 pub enum Outcome {
     Unified(u32),
@@ -47,10 +48,9 @@ fn pair(terms: &FlatTerms, table: &mut Table, left: u32, a: usize, b: usize) -> 
     requires { Paired terms.now.symbols.now terms.now.cells.now table.old.bind table.old.trail table.old.marks table.old.bound a b }
     ensures { RanPair terms.now.symbols.now terms.now.cells.now table.old.bind table.old.trail table.old.bound a b left table.new.bind table.new.trail table.new.marks table.new.bound result }
 {
-    if left == 0 {
+    let Some(rest) = left.checked_sub(1) else {
         return Outcome::Broken;
-    }
-    let rest = left - 1;
+    };
     let c = terms.cells[a];
     let d = terms.cells[b];
     if VARIABLE <= c {
@@ -69,7 +69,8 @@ fn pair(terms: &FlatTerms, table: &mut Table, left: u32, a: usize, b: usize) -> 
     pairs(terms, table, rest, a + 1, b + 1, arity)
 }
 
-// The equations between the `number` terms at p and those at q, in order.
+// The equations between the `number` terms at p and those at q, in order. A recursion over the terms that are left, and no `for`: each place
+// is found from the term before it.
 #[cycle(pair_pairs)]
 fn pairs(
     terms: &FlatTerms,
@@ -93,15 +94,13 @@ fn pairs(
     };
     let a = bound.resolve(p);
     let b = bound.resolve(q);
-    match pair(terms, table, left, a, b) {
-        Outcome::Unified(rest) => {
-            let p_next = terms.after_first(p, number);
-            let q_next = terms.after_first(q, number);
-            pairs(terms, table, rest, p_next, q_next, number - 1)
-        }
-        Outcome::Failed(rest) => Outcome::Failed(rest),
-        Outcome::Broken => Outcome::Broken,
-    }
+    let tried = pair(terms, table, left, a, b);
+    let Outcome::Unified(rest) = tried else {
+        return tried;
+    };
+    let p_next = terms.after_first(p, number);
+    let q_next = terms.after_first(q, number);
+    pairs(terms, table, rest, p_next, q_next, number - 1)
 }
 
 // Unifies the `number` terms at p with those at q, with at most `left` equations. The bindings stand for

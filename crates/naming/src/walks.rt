@@ -61,7 +61,6 @@ pub fn count<'a>(text: Readable<'a>) -> Declarations<'a>
 {
     let mut count = 0;
     let mut end = 0;
-    // The walk counts too, but the `for` takes it.
     for d in Walk::new(text) {
         count += 1;
         end = d.end;

@@ -44,6 +44,7 @@ pub fn deck_words<'a>(
 }
 
 // Prints the line of a refusal. Returns the number of bytes.
+// The 19 bytes of room are a clause here, at `or_refusal` and in carry_program: a type round the lent room would be made for one call.
 // A number beside the room (c): tried as a `&'a [u8]` of it with `follows_so`; the check wants `printed_spec` by hand, and a caller's `c.out-1.given` stays open.
 pub fn put_line(out: &mut [u8], why: Refusal) -> usize
     requires { 19 ≤ length out.old }

@@ -6,7 +6,6 @@ use borrow.Author.Tests.{ltb-true, ltb-false}
 use lib.Dec.{ltb}
 use Rattle.std.specs.List.{list_all}
 use mathlib.Core.List.{List, [], ◌∷◌, map}
-use native.Mathlib.Decide.{dec_lt}
 use native.Mathlib.Numerals.{add-one}
 use native.Mathlib.Omega.{arith}
 use lib.ListN.{length, get_or, drop, set, length-set, drop_of_length-le}
@@ -40,20 +39,22 @@ pub topped-none : (cells : List ℕ) → Topped cells 0 0
 topped-none cells = record { small = omega arith; rest = omega arith }
 
 module _ {cells : List ℕ} {top i : ℕ} (s : Topped cells top i) (l : i < length cells) where
-  pub topped-more : 32768 + top ≤ get_or cells i 0 → get_or cells i 0 < 65536 → Topped cells (get_or cells i 0 - 32768 + 1) (i + 1)
-  topped-more h k =
-      let z = ap (λ cs. above (variables_in cs)) (drop-cons cells i 0 l) ∙ ap above (variable-one (get_or cells i 0) (drop (suc i) cells) (omega arith)) in
-      record { small = omega arith; rest = rw (add-one i) (omega (arith, s.rest)) }
+  step : above (variables_in (drop i cells)) ≡ above (variables_in (get_or cells i 0 ∷ drop (suc i) cells))
+  step = ap (λ cs. above (variables_in cs)) (drop-cons cells i 0 l)
 
-  pub topped-same : get_or cells i 0 < 32768 + top → Topped cells top (i + 1)
-  topped-same h = record { small = s.small; rest = rw (add-one i) (cases (dec_lt (get_or cells i 0) 32768)) }
-    where
-      z : above (variables_in (drop i cells)) ≡ above (variables_in (get_or cells i 0 ∷ drop (suc i) cells))
-      z = ap (λ cs. above (variables_in cs)) (drop-cons cells i 0 l)
+  pub topped-more : {top' : ℕ} → 32768 ≤ get_or cells i 0 → get_or cells i 0 < 65536 → top' ≡ max top (get_or cells i 0 - 32768 + 1) → Topped cells top' (i + 1)
+  topped-more h k e =
+      record {
+        small = omega arith;
+        rest = rw (add-one i) (omega (arith, step, s.rest, ap above (variable-one (get_or cells i 0) (drop (suc i) cells) h)));
+      }
 
-      cases : Dec (get_or cells i 0 < 32768) → max top (above (variables_in (drop (suc i) cells))) ≡ above (variables_in cells)
-      cases (yes k) = omega (arith, z, s.rest, ap above (variable-none (get_or cells i 0) (drop (suc i) cells) k))
-      cases (no k) = omega (arith, z, s.rest, ap above (variable-one (get_or cells i 0) (drop (suc i) cells) (omega arith)))
+  pub topped-same : get_or cells i 0 < 32768 → Topped cells top (i + 1)
+  topped-same h =
+      record {
+        small = s.small;
+        rest = rw (add-one i) (omega (arith, step, s.rest, ap above (variable-none (get_or cells i 0) (drop (suc i) cells) h)));
+      }
 
 pub topped-all : {cells : List ℕ} {top i : ℕ} → Topped cells top i → length cells ≤ i → top ≡ above (variables_in cells)
 topped-all {cells} {top} {i} s l =

@@ -13,9 +13,8 @@ pub fn variables(cells: &[u16]) -> usize
 {
     let mut top = 0;
     for &cell in cells {
-        let c = usize::from(cell);
-        if usize::from(VARIABLE) + top <= c {
-            top = c - usize::from(VARIABLE) + 1;
+        if VARIABLE <= cell {
+            top = top.max(usize::from(cell - VARIABLE) + 1);
         }
     }
     top
@@ -27,6 +26,7 @@ pub fn copy_fresh(clause: &[u16], cells: &mut [u16], to: usize, n: u16)
     requires by_index { (i : ℕ) → i < length clause.now → get_or clause.now i 0 + n < 65536 }
     ensures { cells.new ≡ sets cells.old to (map (fresh_cell n) clause.now) }
 {
+    // By index: with `zip` over `iter_mut` the loop's invariant names the cells lent so far (`yielded`), and not `cells`.
     for (i, &c) in clause.iter().enumerate() {
         cells[to + i] = if c < VARIABLE { c } else { c + n };
     }

@@ -7,7 +7,8 @@ use matching::bindings::Bound;
 use matching::cells::VARIABLE;
 
 // The words of the goal that is written; the number of each of 1,280 variables, if it has one; and the variables that have a number, in order:
-// the first `named` entries.
+// the first `named` entries. The place that is written next goes through the methods and is no field: once the terms do not fit there is none,
+// and as a result it stands in `Ok` alone.
 #[derive(Drop)]
 pub struct Draft {
     pub child: [u16; 1024],
@@ -54,7 +55,7 @@ impl Draft {
 
     // Writes the first `number` of the terms that the cells from p up to `end` hold, as they are after the replacements, from `to` on. The
     // terms are walked cell by cell, with `todo` terms still to come; only a variable that was replaced is entered. The result is the place
-    // after them.
+    // after them. `todo` is counted down in place: what `checked_sub` gives would have to be put back in both cases.
     #[cycle(put_terms_put_value)]
     pub fn put_terms(
         &mut self,

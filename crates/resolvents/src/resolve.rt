@@ -21,7 +21,8 @@ use matching::cells::{FlatTerms, VARIABLE, arity_of};
 use matching::unify::{Outcome, unify_terms};
 
 // No derived goal; the number of its words; or it is over 1,024 words. `Nothing` is no `None`, since this stands in an `Option` already, and
-// `Option<(Option<Result<usize, Full>>, u32)>` leaves a reader to find out which `None` is which.
+// `Option<(Option<Result<usize, Full>>, u32)>` leaves a reader to find out which `None` is which. `Child` has a number and no slice of the
+// draft's words, which would keep the workspace lent.
 #[derive(Clone, Copy, Debug, PartialEq, Eq)]
 pub enum Resolved {
     Nothing,
@@ -61,10 +62,7 @@ pub fn begins_otherwise(first: Option<u16>, clause: &[u16]) -> bool
     ensures fails { result ≡ true → (ts : Terms) (c : Clause) (n : ℕ) → first ≡ leading_symbol ts → count ts ≡ count c.arguments → clause.now ≡ write_clause c → unify ts (fresh n c.arguments) ≡ fails 1 }
     ensures goes_on { result ≡ false → IfSome first (λ f. get_or clause.now 1 0 < 32768 → get_or clause.now 1 0 ≡ f) }
 {
-    match first {
-        Some(first) => clause[1] < VARIABLE && clause[1] != first,
-        None => false,
-    }
+    first.is_some_and(|first| clause[1] < VARIABLE && clause[1] != first)
 }
 
 // What a derived goal is written from: the bindings over the cells of a goal and then of a clause, the call, and where the clause's body begins.

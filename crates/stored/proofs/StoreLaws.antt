@@ -1,7 +1,7 @@
 -- Goals in a store: what the code's tests say of the goal that words begin with, and goals passed one after another. Assumes nothing.
 use Prim.Native.Nat.{ℕ, zero, suc, ◌+◌, ◌-◌, ◌*◌, ◌/◌, ◌%◌, ◌≤◌, ◌<◌}
 use mathlib.Core.Path.{◌≡◌, refl, ap, ap₂, sym, ◌∙◌, subst}
-use mathlib.Core.Bool.{Bool, true, false, ◌&&◌, and-eq-true_iff, false≢true}
+use mathlib.Core.Bool.{Bool, true, false, not, ◌&&◌, and-eq-true_iff, false≢true}
 use mathlib.Core.Option.{Option, none, some, none-ne-some, some-injective}
 use mathlib.Core.List.{List, [], ◌∷◌, ◌++◌, map, append_assoc, append-nil}
 use native.Mathlib.Omega.{arith}
@@ -20,12 +20,12 @@ use Rattle.rules.specs.Stored.{goal_fits, pending_fits, parked_fits, every, as_o
 use Rattle.rules.proofs.NextLaws.{either}
 use Rattle.rules.proofs.CellLaws.{read-row, Reads, row_reads}
 use Rattle.rules.proofs.GoalLaws.{goal-small, read-goal, goal-reads}
-use Rattle.deck.specs.Kinds.{kind_of, symbols_of}
+use Rattle.deck.specs.Kinds.{kind_of, symbols_of, begins_literal}
 use Rattle.deck.specs.Scan.{scan}
 use Rattle.deck.proofs.ScanLaws.{scan_row, scan-row}
 use Rattle.deck.proofs.OpenLaws.{accepted-symbols}
 use Rattle.std.specs.Prelude.{Some, None}
-use Rattle.stored.specs.Passing.{no_predicate, leads, lead, mark_fits, fits_as, GoalAt, GoalFound, Passed, GoalsFound, OpenFound}
+use Rattle.stored.specs.Passing.{leads, lead, mark_fits, fits_as, GoalAt, GoalFound, Passed, GoalsFound, OpenFound}
 use Rattle.stored.specs.Before.{before}
 
 -- MARKS
@@ -84,7 +84,7 @@ variable-leads : (S : List Symbol) (v : ℕ) → leads S (32768 + v) ≡ true
 unfolding read_cell variable_cell
 variable-leads S v =
     rw (le-leb 32768 (32768 + v) (omega arith), read_cell)
-    (either (λ c. no_predicate (kind_of c) ≡ true) (leb (32768 + v - 32768) 1023) (variable (32768 + v - 32768)) invalid (λ e. refl) (λ e. refl))
+    (either (λ c. not (begins_literal (kind_of c)) ≡ true) (leb (32768 + v - 32768) 1023) (variable (32768 + v - 32768)) invalid (λ e. refl) (λ e. refl))
 
 mutual
   unfolding lead

@@ -1,26 +1,17 @@
 -- Open goals passed one after another, and the cells of a goal.
-use Rattle.std.specs.Prelude.{ℕ, ◌+◌, ◌≤◌, ◌<◌, ◌≡◌, Bool, true, false, ◌&&◌, List, length, take, drop, leb, eqb, Option, Some, None}
+use Rattle.std.specs.Prelude.{ℕ, ◌+◌, ◌≤◌, ◌<◌, ◌≡◌, Bool, true, false, not, ◌&&◌, List, length, take, drop, leb, eqb, Option, Some, None}
 use Rattle.std.specs.List.{prefix_len}
 use Rattle.std.proofs.Math.Option.{none, some}
 use Rattle.rules.specs.Syntax.{Symbol}
 use Rattle.rules.specs.Cells.{read_cell}
 use Rattle.rules.specs.Goals.{Marked, words_of, marked_words, goal_words, goal_read, read_goal, read_goals}
 use Rattle.rules.specs.Stored.{pending_fits, parked_fits, every, OpenGoals, read_open}
-use Rattle.deck.specs.declared.kinds.Kind.{Kind}
-use Rattle.deck.specs.declared.kinds.Kind.TheVariants.{Variable, Function, Positive, Negative, Invalid}
-use Rattle.deck.specs.Kinds.{kind_of}
+use Rattle.deck.specs.Kinds.{kind_of, begins_literal}
 use Rattle.stored.specs.Before.{before}
 
 -- Whether a cell is no predicate's.
-abbrev pub no_predicate : Kind → Bool
-no_predicate (Variable v) = true
-no_predicate (Function k) = true
-no_predicate (Positive k) = false
-no_predicate (Negative k) = false
-no_predicate Invalid = true
-
 abbrev pub leads : List Symbol → ℕ → Bool
-leads S c = no_predicate (kind_of (read_cell S c))
+leads S c = not (begins_literal (kind_of (read_cell S c)))
 
 -- The number of cells in front of the first predicate's.
 unfoldable pub lead : List Symbol → List ℕ → ℕ

@@ -7,21 +7,10 @@ ghost use Rattle.rules.specs.Refusals.{accepted};
 ghost use Rattle.rules.specs.Decks.{open_deck};
 ghost use Rattle.deck.specs.Kinds.{symbols_of};
 ghost use Rattle.deck.specs.Scan.{scan};
-ghost use Rattle.stored.specs.Passing.{lead, fits_as, mark_fits, leads, GoalFound, GoalsFound, OpenFound};
+ghost use Rattle.stored.specs.Passing.{lead, fits_as, mark_fits, GoalFound, GoalsFound, OpenFound};
 
-use deck::kinds::Kind;
 use deck::parts::Parts;
 use deck::{kinds, terms};
-
-// Whether a cell is no predicate's.
-fn leads(symbols: &[u16], cell: u16) -> bool
-    ensures { result ≡ leads (symbols_of symbols.now) cell }
-{
-    !matches!(
-        kinds::read(symbols, cell),
-        Kind::Positive(_) | Kind::Negative(_)
-    )
-}
 
 // The number of cells in front of the first literal.
 #[tactic(auto, unfolding(crate::specs::Passing::lead))]
@@ -30,7 +19,7 @@ fn front(symbols: &[u16], cells: &[u16]) -> usize
 {
     cells
         .iter()
-        .take_while(|cell| leads(symbols, **cell))
+        .take_while(|cell| !kinds::read(symbols, **cell).begins_literal())
         .count()
 }
 

@@ -10,7 +10,7 @@ use Rattle.text.specs.declared.names.Entry.{Entry}
 use Rattle.text.specs.declared.names.Slot.{Slot}
 use Rattle.text.specs.Hash.{hash_of, last_with, found_at, in_bucket, is_name}
 use Rattle.std.proofs.lemmas.List.{get_or-map}
-use Rattle.text.specs.Names.{Table, bytes_of, name_at, entered, entry_of, IsSlot, the_table, slot_name, Chained}
+use Rattle.text.specs.Names.{Table, bytes_of, name_at, entered, IsSlot, the_table, slot_name, Chained}
 
 -- A number that was found, or none.
 abbrev pub one_more : Option ℕ → ℕ
@@ -138,8 +138,8 @@ module _ (name : ℕ → List ℕ) (wanted : List ℕ) (n : ℕ) where
   chain-end c = c.same
 
 module _ {V : Type 0} where
-  pub slot-bytes : (text : List ℕ) (slots : List (Slot V)) (s : Slot V) (j : ℕ) → j < length slots → slot_name text slots j ≡ bytes_of text (entry_of (get_or slots j s))
-  slot-bytes text slots s j l = get_or-map (λ s. bytes_of text (entry_of s)) slots j s [] l
+  pub slot-bytes : (text : List ℕ) (slots : List (Slot V)) (s : Slot V) (j : ℕ) → j < length slots → slot_name text slots j ≡ bytes_of text (get_or slots j s).entry
+  slot-bytes text slots s j l = get_or-map (λ s. bytes_of text s.entry) slots j s [] l
 
   pub entry-bytes : (t : Table V) (e : Entry V) (j : ℕ) → j < length t.entries → name_at t j ≡ bytes_of t.text (get_or t.entries j e)
   entry-bytes t e j l = get_or-map (bytes_of t.text) t.entries j e [] l
@@ -148,9 +148,9 @@ module _ {V : Type 0} where
   pub record Here (text : List ℕ) (slots : List (Slot V)) (wanted : List ℕ) (n j : ℕ) (o : Option ℕ) (s : Slot V) : Type 0 where
     pub size : one_more o ≡ suc j
     pub chain : Chain (slot_name text slots) wanted n (suc j)
-    pub bytes : slot_name text slots j ≡ bytes_of text (entry_of s)
-    pub forward : s.from ≤ s.to
-    pub inside : s.to ≤ length text
+    pub bytes : slot_name text slots j ≡ bytes_of text s.entry
+    pub forward : s.entry.from ≤ s.entry.to
+    pub inside : s.entry.to ≤ length text
     pub before : s.before ≡ found_at (last_with (in_bucket (hash_of 0 (slot_name text slots j))) (slot_name text slots) j)
 
   module _ (N : ℕ) (text : List ℕ) (slots : List (Slot V)) (heads : List (Option ℕ)) (n : ℕ) (E : Chained N text slots heads n) (wanted : List ℕ) (o : Option ℕ) (k j : ℕ) (e : o ≡ Some k)
@@ -170,14 +170,14 @@ module _ {V : Type 0} where
         record {
           size = its-size;
           chain = on-chain;
-          bytes = slot-bytes text slots s j (omega (arith, one-taken, E.few, E.room)) ∙ ap (λ s. bytes_of text (entry_of s)) x;
-          forward = subst (λ (s : Slot V). s.from ≤ s.to) x (E.forward s j one-taken);
-          inside = subst (λ (s : Slot V). s.to ≤ length text) x (E.inside s j one-taken);
+          bytes = slot-bytes text slots s j (omega (arith, one-taken, E.few, E.room)) ∙ ap (λ s. bytes_of text s.entry) x;
+          forward = subst (λ (s : Slot V). s.entry.from ≤ s.entry.to) x (E.forward s j one-taken);
+          inside = subst (λ (s : Slot V). s.entry.to ≤ length text) x (E.inside s j one-taken);
           before = ap (λ (s : Slot V). s.before) (sym x) ∙ E.before s j one-taken;
         }
 
   -- What callers see of the slots.
-  pub size-of : (slots : List (Slot V)) (n : ℕ) → n ≤ length slots → length (map entry_of (take n slots)) ≡ n
+  pub size-of : (slots : List (Slot V)) (n : ℕ) → n ≤ length slots → length (map (λ s. s.entry) (take n slots)) ≡ n
   size-of slots zero l = refl
   size-of [] (suc n) l = absurd (omega arith)
   size-of (s ∷ slots) (suc n) l = ap suc (size-of slots n (omega arith))
@@ -199,18 +199,18 @@ module _ {V : Type 0} where
       ∙ ap (last_with (is_name wanted) (name_at (the_table text slots n))) (sym (size-of slots n l))
 
   -- A slot more.
-  pub one-entered : (text : List ℕ) (slots : List (Slot V)) (n : ℕ) (s : Slot V) → n < length slots → the_table text (set slots n s) (n + 1) ≡ entered (the_table text slots n) (entry_of s)
+  pub one-entered : (text : List ℕ) (slots : List (Slot V)) (n : ℕ) (s : Slot V) → n < length slots → the_table text (set slots n s) (n + 1) ≡ entered (the_table text slots n) s.entry
   one-entered text slots n s h = ap (λ es. record { text = text; entries = es }) (go slots n h)
     where
-      go : (slots : List (Slot V)) (n : ℕ) → n < length slots → map entry_of (take (n + 1) (set slots n s)) ≡ map entry_of (take n slots) ++ entry_of s ∷ []
+      go : (slots : List (Slot V)) (n : ℕ) → n < length slots → map (λ s. s.entry) (take (n + 1) (set slots n s)) ≡ map (λ s. s.entry) (take n slots) ++ s.entry ∷ []
       go [] n h = absurd (omega arith)
       go (x ∷ xs) zero h = refl
-      go (x ∷ xs) (suc n) h = rw add-one (ap {B = List (Entry V)} (entry_of x ∷◌) (ap (λ m. map entry_of (take m (set xs n s))) (sym (add-one n)) ∙ go xs n (omega arith)))
+      go (x ∷ xs) (suc n) h = rw add-one (ap {B = List (Entry V)} (x.entry ∷◌) (ap (λ m. map (λ s. s.entry) (take m (set xs n s))) (sym (add-one n)) ∙ go xs n (omega arith)))
 
 module _ {V : Type 0} (N : ℕ) (text : List ℕ) (slots : List (Slot V)) (heads : List (Option ℕ)) (n : ℕ) (E : Chained N text slots heads n) (e : Entry V) (h : ℕ) (room : n < N)
     (forward : e.from ≤ e.to) (inside : e.to ≤ length text) (hash : h ≡ hash_of 0 (slice_range text e.from e.to)) (small : h < 1021) where
   abbrev slot : Slot V
-  slot = record { from = e.from; to = e.to; value = e.value; before = get_or heads h None }
+  slot = record { entry = e; before = get_or heads h None }
 
   abbrev slots' : List (Slot V)
   slots' = set slots n slot
@@ -236,11 +236,11 @@ module _ {V : Type 0} (N : ℕ) (text : List ℕ) (slots : List (Slot V)) (heads
   old-name : (j : ℕ) → j < n → name j ≡ name' j
   old-name j l =
       slot-bytes text slots slot j (omega (arith, E.room))
-      ∙ ap (λ s. bytes_of text (entry_of s)) (sym (old-slot slot j l))
+      ∙ ap (λ s. bytes_of text s.entry) (sym (old-slot slot j l))
       ∙ sym (slot-bytes text slots' slot j (omega (arith, full)))
 
   new-name : name' n ≡ slice_range text e.from e.to
-  new-name = slot-bytes text slots' slot n (omega (arith, full)) ∙ ap (λ s. bytes_of text (entry_of s)) (new-slot slot)
+  new-name = slot-bytes text slots' slot n (omega (arith, full)) ∙ ap (λ s. bytes_of text s.entry) (new-slot slot)
 
   new-head : (g : ℕ) → g < 1021 → get_or heads' g None ≡ found_at (last_with (in_bucket g) name' (suc n))
   new-head g l = go (ℕ_discrete g h)
@@ -274,11 +274,11 @@ module _ {V : Type 0} (N : ℕ) (text : List ℕ) (slots : List (Slot V)) (heads
       ∙ ap (λ g. found_at (last_with (in_bucket g) name n)) (hash ∙ ap (hash_of 0) (sym new-name))
       ∙ ap found_at (last-ext (in_bucket (hash_of 0 (name' n))) name name' n old-name))
 
-  new-forward : (s : Slot V) (j : ℕ) → (j < n) ⊎ (j ≡ n) → (get_or slots' j s).from ≤ (get_or slots' j s).to
+  new-forward : (s : Slot V) (j : ℕ) → (j < n) ⊎ (j ≡ n) → (get_or slots' j s).entry.from ≤ (get_or slots' j s).entry.to
   new-forward s j (inl l) = rw (old-slot s j l) (E.forward s j l)
   new-forward s j (inr q) = rw (q, new-slot s) forward
 
-  new-inside : (s : Slot V) (j : ℕ) → (j < n) ⊎ (j ≡ n) → (get_or slots' j s).to ≤ length text
+  new-inside : (s : Slot V) (j : ℕ) → (j < n) ⊎ (j ≡ n) → (get_or slots' j s).entry.to ≤ length text
   new-inside s j (inl l) = rw (old-slot s j l) (E.inside s j l)
   new-inside s j (inr q) = rw (q, new-slot s) inside
 

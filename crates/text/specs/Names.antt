@@ -34,19 +34,16 @@ name_at t j = get_or (map (bytes_of t.text) t.entries) j []
 abbrev pub entered : {V : Type 0} → Table V → Entry V → Table V
 entered t e = record { text = t.text; entries = t.entries ++ e ∷ [] }
 
-abbrev pub entry_of : {V : Type 0} → Slot V → Entry V
-entry_of s = record { from = s.from; to = s.to; value = s.value }
-
 -- Slot j, where there are so many.
 abbrev pub IsSlot : {V : Type 0} → List (Slot V) → ℕ → Slot V → Type 0
 IsSlot {V} slots j s = (d : Slot V) → s ≡ get_or slots j d
 
 -- The slots, of which the first n are taken.
 abbrev pub the_table : {V : Type 0} → List ℕ → List (Slot V) → ℕ → Table V
-the_table text slots n = record { text = text; entries = map entry_of (take n slots) }
+the_table text slots n = record { text = text; entries = map (λ s. s.entry) (take n slots) }
 
 abbrev pub slot_name : {V : Type 0} → List ℕ → List (Slot V) → ℕ → List ℕ
-slot_name text slots j = get_or (map (λ s. bytes_of text (entry_of s)) slots) j []
+slot_name text slots j = get_or (map (λ s. bytes_of text s.entry) slots) j []
 
 -- `heads` has the last name of each bucket, and a slot the one before it.
 pub record Chained {V : Type 0} (N : ℕ) (text : List ℕ) (slots : List (Slot V)) (heads : List (Option ℕ)) (n : ℕ) : Type 0 where
@@ -54,7 +51,7 @@ pub record Chained {V : Type 0} (N : ℕ) (text : List ℕ) (slots : List (Slot 
   pub few : n ≤ N
   pub room : length slots ≡ N
   pub buckets : length heads ≡ 1021
-  pub forward : (s : Slot V) (j : ℕ) → j < n → (get_or slots j s).from ≤ (get_or slots j s).to
-  pub inside : (s : Slot V) (j : ℕ) → j < n → (get_or slots j s).to ≤ length text
+  pub forward : (s : Slot V) (j : ℕ) → j < n → (get_or slots j s).entry.from ≤ (get_or slots j s).entry.to
+  pub inside : (s : Slot V) (j : ℕ) → j < n → (get_or slots j s).entry.to ≤ length text
   pub head : (h : ℕ) → h < 1021 → get_or heads h None ≡ found_at (last_with (in_bucket h) (slot_name text slots) n)
   pub before : (s : Slot V) (j : ℕ) → j < n → (get_or slots j s).before ≡ found_at (last_with (in_bucket (hash_of 0 (slot_name text slots j))) (slot_name text slots) j)

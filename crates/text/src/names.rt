@@ -17,12 +17,10 @@ pub struct Entry<V> {
     pub value: V,
 }
 
-// An entry, and the number of the name before it in its bucket. Not an `Entry` in it: a slot with a u16 would take 32 bytes and not 24, and all 4,096 are filled for each text.
+// An entry, and the number of the name before it in its bucket.
 #[derive(Clone, Copy, Debug, PartialEq, Eq)]
 pub struct Slot<V> {
-    from: usize,
-    to: usize,
-    value: V,
+    entry: Entry<V>,
     before: Option<u16>,
 }
 
@@ -85,10 +83,13 @@ impl<'a, V: Copy + Default + Drop, const N: usize> Names<'a, V, N> {
         requires { N ≤ 65535 }
         ensures { result ≡ empty_table text.now }
     {
-        let slot = Slot {
+        let entry = Entry {
             from: 0,
             to: 0,
             value: V::default(),
+        };
+        let slot = Slot {
+            entry,
             before: None,
         };
         let slots = Slots { row: [slot; N] };
@@ -120,12 +121,7 @@ impl<'a, V: Copy + Default + Drop, const N: usize> Names<'a, V, N> {
         ensures inside { result.to ≤ length self.now.text }
     {
         let slots = &self.slots.row[..];
-        let slot = slots[j];
-        Entry {
-            from: slot.from,
-            to: slot.to,
-            value: slot.value,
-        }
+        slots[j].entry
     }
 
     // The number of the last name of those bytes.
@@ -138,7 +134,7 @@ impl<'a, V: Copy + Default + Drop, const N: usize> Names<'a, V, N> {
         while let Some(k) = next {
             let j = usize::from(k);
             let slot = slot_at(&self.slots.row, j);
-            if &self.text[slot.from..slot.to] == bytes {
+            if &self.text[slot.entry.from..slot.entry.to] == bytes {
                 return Some(j);
             }
             next = slot.before;
@@ -153,20 +149,10 @@ impl<'a, V: Copy + Default + Drop, const N: usize> Names<'a, V, N> {
         requires inside { entry.to ≤ length self.old.text }
         ensures { self.new ≡ entered self.old entry }
     {
-        let Entry { from, to, value } = entry;
-        let h = hash(&self.text[from..to]);
+        let h = hash(&self.text[entry.from..entry.to]);
         let before = self.heads[h];
         let i = self.count;
-        put_slot(
-            &mut self.slots.row,
-            i,
-            Slot {
-                from,
-                to,
-                value,
-                before,
-            },
-        );
+        put_slot(&mut self.slots.row, i, Slot { entry, before });
         let heads = &mut self.heads;
         // It is below 65,535: a `try_from` would want an answer for what cannot be.
         heads[h] = Some(i as u16);

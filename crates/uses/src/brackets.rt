@@ -36,6 +36,7 @@ impl Counting {
     }
 
     // At an opening bracket: its pair joins the row, with its first argument begun. The cast is proved to fit; `try_from` would have an error that cannot come.
+    // `Room` is asked for at each token, and is no ghost field: the number of open brackets is bounded by the text that is left, which is not here.
     fn opened(&mut self)
         requires { Room self.old }
         ensures { Steps opening self.old self.new }

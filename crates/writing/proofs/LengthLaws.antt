@@ -18,14 +18,14 @@ use Rattle.rules.specs.WellFormed.{All, WfSymbol, WfTerm, WfTerms, WfLiterals, c
 use Rattle.rules.specs.Listing.{digits, decimal}
 use Rattle.text_rules.specs.TextWriter.{symbol_text, literal_text, literals_text, body_text, clause_text}
 use Rattle.rules.proofs.CellLaws.{Small, Written, cell-written, read_cell-var, after-term, after-terms, cell-symbol, cell-negated, cell-variable}
-use Rattle.deck.specs.Kinds.{symbol_of, kind_of}
+use Rattle.deck.specs.Kinds.{symbol_of, kind_of, begins_literal}
 use Rattle.deck.specs.declared.kinds.Kind.{Kind}
 use Rattle.deck.specs.declared.kinds.Kind.TheVariants.{Variable, Function, Positive, Negative, Invalid}
 use Rattle.listing.specs.Standing.{show_term, show_arguments, show_more}
 use Rattle.listing.specs.Digits.{weight_at}
 use Rattle.listing.proofs.DigitLaws.{weight-positive, power_weight, decimal-append, decimal-length, one-digit, more-digits}
 use Rattle.writing.specs.Writes.{line_text}
-use Rattle.writing.specs.Lengths.{name_bytes, bracket_bytes, cell_bytes, begins_literal, literal_cell, row_bytes, literal_cells, body_bytes, clause_bytes}
+use Rattle.writing.specs.Lengths.{name_bytes, bracket_bytes, cell_bytes, literal_cell, row_bytes, literal_cells, body_bytes, clause_bytes}
 use Rattle.writing.proofs.TextParts.{positive-text, negative-text, no-literals, no_body, literals-parts, body-parts, clause-parts, line-parts, functor-text, predicate-text}
 
 -- A number from ten to the k up to ten to the k + 1 has k + 1 digits.

@@ -1,5 +1,5 @@
 -- The length of a clause's text by its cells.
-use Rattle.std.specs.Prelude.{ℕ, zero, suc, ◌+◌, ◌-◌, Bool, true, false, List, [], ◌∷◌, length, cond}
+use Rattle.std.specs.Prelude.{ℕ, zero, suc, ◌+◌, ◌-◌, List, [], ◌∷◌, length, cond}
 use Rattle.rules.specs.Syntax.{Symbol}
 use Rattle.rules.specs.Cells.{read_cell}
 use Rattle.rules.specs.Decks.{symbol_words, clause_words, term_cells}
@@ -7,7 +7,7 @@ use Rattle.rules.specs.WellFormed.{All, WfSymbol}
 use Rattle.rules.specs.Listing.{decimal}
 use Rattle.text_rules.specs.TextWriter.{symbol_text}
 use Rattle.signature.specs.Symbols.{symbol_word}
-use Rattle.deck.specs.Kinds.{symbol_of, symbols_of, kind_of}
+use Rattle.deck.specs.Kinds.{symbol_of, symbols_of, kind_of, begins_literal}
 use Rattle.deck.specs.Rows.{row_at}
 use Rattle.deck.specs.declared.kinds.Kind.{Kind}
 use Rattle.deck.specs.declared.kinds.Kind.TheVariants.{Variable, Function, Positive, Negative, Invalid}
@@ -32,14 +32,6 @@ cell_bytes (Function k) c = name_bytes c + bracket_bytes k
 cell_bytes (Positive k) c = 2 + (name_bytes c + bracket_bytes k)
 cell_bytes (Negative k) c = 3 + (name_bytes (c - 16384) + bracket_bytes k)
 cell_bytes Invalid c = 0
-
--- Whether a literal begins with a cell.
-abbrev pub begins_literal : Kind → Bool
-begins_literal (Variable v) = false
-begins_literal (Function k) = false
-begins_literal (Positive k) = true
-begins_literal (Negative k) = true
-begins_literal Invalid = false
 
 abbrev pub literal_cell : Kind → ℕ
 literal_cell k = cond (begins_literal k) 1 0

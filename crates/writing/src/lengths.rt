@@ -4,9 +4,9 @@ ghost use Rattle.rules.specs.Cells.{read_cell};
 ghost use Rattle.rules.specs.Decks.{symbol_words, clause_words};
 ghost use Rattle.rules.specs.Listing.{decimal};
 ghost use Rattle.text_rules.specs.TextWriter.{symbols_text, clauses_text, deck_text};
-ghost use Rattle.deck.specs.Kinds.{kind_of};
+ghost use Rattle.deck.specs.Kinds.{kind_of, begins_literal};
 ghost use Rattle.signature.specs.Symbols.{symbol_count};
-ghost use Rattle.writing.specs.Lengths.{bracket_bytes, cell_bytes, begins_literal, clause_bytes_at, symbol_bytes_at};
+ghost use Rattle.writing.specs.Lengths.{bracket_bytes, cell_bytes, clause_bytes_at, symbol_bytes_at};
 ghost use Rattle.writing.specs.Writes.{deck_of, symbols_in};
 
 use crate::literals::NEGATED;
@@ -82,17 +82,10 @@ fn cell_length(deck: &Opened, cell: u16) -> usize
 fn literal_count(deck: &Opened, cells: &[u16]) -> usize
     ensures { result ≡ count_by (λ c. begins_literal (kind_of (read_cell (symbols_in deck.now.words.now) c))) cells.now }
 {
-    cells.iter().filter(|cell| begins(deck, **cell)).count()
-}
-
-// Whether a literal begins with the cell.
-fn begins(deck: &Opened, cell: u16) -> bool
-    ensures { result ≡ begins_literal (kind_of (read_cell (symbols_in deck.now.words.now) cell)) }
-{
-    matches!(
-        kinds::read(deck.symbols(), cell),
-        Kind::Positive(_) | Kind::Negative(_)
-    )
+    cells
+        .iter()
+        .filter(|cell| kinds::read(deck.symbols(), **cell).begins_literal())
+        .count()
 }
 
 // The brackets around so many arguments, and the commas between them.

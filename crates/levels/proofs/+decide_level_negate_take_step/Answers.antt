@@ -269,6 +269,8 @@ picked t c r e d g gs o h =
     (c.select_literal-selected.ensures d.symbols g
     (rw c.goal.ensures (goal-row c.args.clauses.now.deck.words.now (read t c) o h c.symbols.result.now (c.from-length.result - 2) c.symbols.ensures refl)))
 
+-- The places of the first two numbers. With `using` of `first-room` on the function these goals stay open: the goal and the deck that the lemma
+-- takes stand in none of them, so that `grind` cannot fit it.
 pub take_step-overflow_sub-held : goal.take_step-overflow_sub-held
 take_step-overflow_sub-held t c = omega (arith, first-room c.requires.first.holding)
 

@@ -1,7 +1,6 @@
 -- `first` meets its contract. Assumes nothing.
 use Prim.Native.Nat.{◌+◌}
 use mathlib.Core.Path.{◌≡◌, sym, ◌∙◌}
-use mathlib.Core.Bool.{false}
 use native.Mathlib.Omega.{arith}
 use Rattle.rules.specs.Drill.{fillings}
 use Rattle.deck.specs.Kinds.{symbols_of}
@@ -24,21 +23,14 @@ returns-then-is_some c =
 
 pub loop-size-preserved : goal.loop-size-preserved
 loop-size-preserved c =
-    let S = symbols_of c.args.self.now.symbols.now in
-    let l = c.loop-size in
-    let none : nonempty (fillings S l.size 1) ≡ false = sym (sought (goal.at.loop-size-preserved c).After-is_some) ∙ c.if-is_some.false in
-    (omega arith, sym (terms-skip S c.args.n l.size (omega (arith, c.loop-size-test.true)) none) ∙ l.invariant.1)
+    let none = sym (sought (goal.at.loop-size-preserved c).After-is_some) ∙ c.if-is_some.false in
+    (omega arith, sym (terms-skip _ c.args.n c.loop-size.size (omega (arith, c.loop-size-test.true)) none) ∙ c.loop-size.invariant.1)
 
 pub returns : goal.returns
-returns c =
-    let S = symbols_of c.args.self.now.symbols.now in
-    let l = c.loop-size in
-    sym l.invariant.1 ∙ terms-end S c.args.n l.size (omega (arith, c.loop-size-test.false))
+returns c = sym c.loop-size.invariant.1 ∙ terms-end _ c.args.n c.loop-size.size (omega (arith, c.loop-size-test.false))
 
 pub returns-else-is_some : goal.returns-else-is_some
 returns-else-is_some c =
-    let S = symbols_of c.args.self.now.symbols.now in
-    let l = c.loop-size in
-    let none : nonempty (fillings S l.size 1) ≡ false = sym (sought (goal.at.returns-else-is_some c).After-is_some) ∙ c.if-is_some.false in
-    let more = terms-skip S c.args.n l.size (omega (arith, c.loop-size-test.true)) none in
-    sym l.invariant.1 ∙ more ∙ terms-end S c.args.n (l.size + 1) (omega arith)
+    let none = sym (sought (goal.at.returns-else-is_some c).After-is_some) ∙ c.if-is_some.false in
+    let more = terms-skip _ c.args.n c.loop-size.size (omega (arith, c.loop-size-test.true)) none in
+    sym c.loop-size.invariant.1 ∙ more ∙ terms-end _ c.args.n (c.loop-size.size + 1) (omega arith)
