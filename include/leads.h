@@ -95,7 +95,8 @@ uint32_t leads_continue(const uint16_t *deck, size_t deck_words, uint64_t pendin
  * compared left to right as numbers; each one time. Refusals 1 to 5, then 19 where n is over 8 or the given term (`after`) is not of that
  * list. Where it returns 0, the list begins with the cells of the terms after the given one, one term after another, as many as fit
  * whole; the words after them are untouched, and count is the number of terms. An empty given term means from the start. To go on,
- * give the last term written. Each term is made from the one before, by at most 16 walks over the symbols. */
+ * give a copy of the last term written (the slices must not overlap). Each term is made from the one before, by at most 16 walks over
+ * the symbols. */
 uint32_t leads_drill(const uint16_t *deck, size_t deck_words, uint32_t n, const uint16_t *after, size_t after_words,
                      uint16_t *list, size_t list_words, uint64_t *count);
 

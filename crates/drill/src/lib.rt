@@ -1,5 +1,5 @@
 // Drill terms (document 02, U12): all variable-free terms of at most n cells over the deck's functors, in order, after a given one.
-// A call goes through the symbols at most 28 times, and at most 16 times more for each term that it makes (those written, and one more).
+// A call goes through the symbols at most 28 times besides the check of the deck, and at most 16 times more for each term that it makes (those written, and one more).
 #![tactic(auto)]
 
 ghost use Rattle.std.specs.Prelude.{◌≤◌, ◌≡◌, length};

@@ -15,10 +15,10 @@ use Rattle.rules.specs.Terms.{var, app, Terms, nil, cons, ◌+++◌, count, size
 use Rattle.rules.specs.Syntax.{Symbol, functor, predicate}
 use Rattle.rules.specs.Cells.{write_term, write_terms, function, symbol_cell, read_cell}
 use Rattle.rules.specs.WellFormed.{All, WfTerms}
-use Rattle.rules.specs.Drill.{DrillTerm, CellsBefore, Before, Sorted, DrillList, with_first, fillings, terms_from, drill_terms, same, past, fitting, joined}
-use Rattle.rules.proofs.ListLaws.{all_append, all_split, all_of, all-weaken, all_both, all_map}
+use Rattle.rules.specs.Drill.{DrillTerm, CellsBefore, Before, Sorted, DrillList, with_first, fillings, terms_from, drill_terms, same, past, after, fitting, joined}
+use Rattle.rules.proofs.ListLaws.{all_append, all_split, all_of, all-weaken, all_both, all_map, all_in}
 use Rattle.rules.proofs.TermLaws.{sizes-join, count-join, size-pos}
-use Rattle.rules.proofs.CellLaws.{write-join, vars-join, wf-split, cell-symbol, written_as, elem_below}
+use Rattle.rules.proofs.CellLaws.{term-length, write-join, vars-join, wf-split, cell-symbol, written_as, elem_below}
 
 -- A functor of the deck as a symbol and as a cell.
 functor-cell : (S : List Symbol) (f a : ℕ) → f < 16384 → get_elem? S f ≡ some (functor a) → read_cell S f ≡ function f a
@@ -345,6 +345,27 @@ sorted-parts : (x : List ℕ) (front R : List (List ℕ)) → Sorted Before (fro
 sorted-parts x [] R s = (tt, s.0)
 sorted-parts x (t ∷ front) R s = let r = sorted-parts x front R s.1 in (((all_split (Before t) front (x ∷ R) s.0).1.0, r.0), r.1)
 
+-- The parts of an ordered list.
+sorted_front : (L M : List (List ℕ)) → Sorted Before (L ++ M) → Sorted Before L
+sorted_front [] M s = tt
+sorted_front (x ∷ L) M s = ((all_split (Before x) L M s.0).0, sorted_front L M s.1)
+
+before_others : (L M : List (List ℕ)) (y : List ℕ) → Sorted Before (L ++ M) → Memᴰ y M → All (λ t. Before t y) L
+before_others [] M y s m = tt
+before_others (x ∷ L) M y s m = (all-member (Before x) y M (all_split (Before x) L M s.0).1 m, before_others L M y s.1 m)
+
+no_shorter : (x y : List ℕ) → Before x y → length x ≤ length y
+no_shorter x y (inl h) = omega arith
+no_shorter x y (inr h) = omega (arith, h.0)
+
+first_least : (t : List ℕ) (ts : List (List ℕ)) (y : List ℕ) → Sorted Before (t ∷ ts) → Memᴰ y (t ∷ ts) → length t ≤ length y
+first_least t ts y s (Memᴰ.head e) = omega (arith, ap length e)
+first_least t ts y s (Memᴰ.tail m) = no_shorter t y (all-member (Before t) y ts s.0 m)
+
+sorted_back : (L M : List (List ℕ)) → Sorted Before (L ++ M) → Sorted Before M
+sorted_back [] M s = s
+sorted_back (x ∷ L) M s = sorted_back L M s.1
+
 module _ (S : List Symbol) (few : length S ≤ 16384) (N : ℕ) (x : List ℕ) (R : List (List ℕ)) (e : past x (drill_terms S N) ≡ some R) where
   cut : Cut x (drill_terms S N) R
   cut = past-cut x (drill_terms S N) R e
@@ -369,6 +390,9 @@ module _ (S : List Symbol) (few : length S ≤ 16384) (N : ℕ) (x : List ℕ) (
       go (inl m) = absurd (before-once x y b (all-member (λ z. Before z x) y cut.front parts.0 m))
       go (inr m) = here (Memᴰ.cases_cons m)
 
+  pub past-sorted : Sorted Before R
+  past-sorted = (sorted_back cut.front (x ∷ R) (subst (Sorted Before) cut.joint (drill-sorted S N))).1
+
   -- A given term is taken just where it is a drill term.
   pub taken-drill : DrillTerm S N x
   taken-drill = all-member (DrillTerm S N) x (drill_terms S N) (drill-sound S few N) (subst (Memᴰ x) (sym cut.joint) (Memᴰ.append_right cut.front (Memᴰ.head refl)))
@@ -390,6 +414,38 @@ past-member x (t ∷ L) e m = go (same x t) refl (Memᴰ.cases_cons m) (past-mem
 
 pub refused-drill : (S : List Symbol) (N : ℕ) (x : List ℕ) → past x (drill_terms S N) ≡ none → DrillTerm S N x → ⊥
 refused-drill S N x e d = past-member x (drill_terms S N) e (drill-complete S N x d)
+
+-- No drill term is empty, so the start comes before each.
+after_start : (S : List Symbol) (N : ℕ) (x : List ℕ) → DrillTerm S N x → Before [] x
+after_start S N x d = inl (omega (arith, ap length d.written, term-length d.term [], size-pos d.term))
+
+-- The terms after the given one, or all of them where none is given: in order, and just the drill terms that come after it.
+pub record Rest (S : List Symbol) (N : ℕ) (given : List ℕ) (rest : List (List ℕ)) : Type 0 where
+  pub from : (given ≡ []) ⊎ DrillTerm S N given
+  pub members : All (DrillTerm S N) rest
+  pub sorted : Sorted Before rest
+  pub later : All (Before given) rest
+  pub all : (y : List ℕ) → DrillTerm S N y → Before given y → Memᴰ y rest
+
+pub rest-after : (S : List Symbol) (few : length S ≤ 16384) (N : ℕ) (given : List ℕ) (rest : List (List ℕ)) → after given (drill_terms S N) ≡ some rest → Rest S N given rest
+unfolding after
+rest-after S few N [] rest e =
+    let same_list : drill_terms S N ≡ rest = some-injective (drill_terms S N) rest e in
+    let members = subst (All (DrillTerm S N)) same_list (drill-sound S few N) in
+    record {
+      from = inl refl;
+      members = members;
+      sorted = subst (Sorted Before) same_list (drill-sorted S N);
+      later = all-weaken (DrillTerm S N) (Before []) (after_start S N) rest members;
+      all = λ y d b. subst (Memᴰ y) same_list (drill-complete S N y d);
+    }
+rest-after S few N (c ∷ cs) rest e = record {
+  from = inr (taken-drill S few N (c ∷ cs) rest e);
+  members = all_in (DrillTerm S N) rest (λ y m. (past-sound S few N (c ∷ cs) rest e y m).0);
+  sorted = past-sorted S few N (c ∷ cs) rest e;
+  later = all_in (Before (c ∷ cs)) rest (λ y m. (past-sound S few N (c ∷ cs) rest e y m).1);
+  all = past-complete S few N (c ∷ cs) rest e;
+}
 
 -- As many as fit: the first ones, and the next does not.
 pub record Fits (room : ℕ) (terms : List (List ℕ)) : Type 0 where
@@ -423,6 +479,33 @@ fits room (t ∷ ts) = go (leb (length t) room) refl (fits (room - length t) ts)
           within = omega (arith, ap (λ k. length (joined k)) e);
           full = λ u us p. let r : t ≡ u = cc in omega (arith, ap (λ k. length (joined k)) e, ap length r);
         }
+
+-- Those that fit are in order, and are all what the others are.
+pub sorted-fitting : (room : ℕ) (rest : List (List ℕ)) → Sorted Before rest → Sorted Before (fitting room rest)
+sorted-fitting room rest s = let f = fits room rest in sorted_front (fitting room rest) f.others (subst (Sorted Before) f.first s)
+
+pub all-fitting : (P : List ℕ → Type 0) (room : ℕ) (rest : List (List ℕ)) → All P rest → All P (fitting room rest)
+all-fitting P room rest h = let f = fits room rest in (all_split P (fitting room rest) f.others (subst (All P) f.first h)).0
+
+-- A term is among those that fit, or comes after them all and has no room beside them.
+pub fitting-full :
+    (room : ℕ) (rest : List (List ℕ)) → Sorted Before rest → (y : List ℕ) → Memᴰ y rest
+    → Memᴰ y (fitting room rest) ⊎ (All (λ t. Before t y) (fitting room rest) × (room < length (joined (fitting room rest)) + length y))
+fitting-full room rest s y m = go (Memᴰ.append_cases (fitting room rest) (subst (Memᴰ y) f.first m))
+  where
+    f : Fits room rest
+    f = fits room rest
+
+    together : Sorted Before (fitting room rest ++ f.others)
+    together = subst (Sorted Before) f.first s
+
+    go : Memᴰ y (fitting room rest) ⊎ Memᴰ y f.others → Memᴰ y (fitting room rest) ⊎ (All (λ t. Before t y) (fitting room rest) × (room < length (joined (fitting room rest)) + length y))
+    go (inl n) = inl n
+    go (inr n) = inr (before_others (fitting room rest) f.others y together n, no_room f.others refl n)
+      where
+        no_room : (ts : List (List ℕ)) → f.others ≡ ts → Memᴰ y ts → room < length (joined (fitting room rest)) + length y
+        no_room [] e k = elim k [ ]
+        no_room (t ∷ ts) e k = omega (arith, f.full t ts e, first_least t ts y (sorted_back (fitting room rest) (t ∷ ts) (subst (λ o. Sorted Before (fitting room rest ++ o)) e together)) k)
 
 -- Two constants, a unary and a binary functor, and a predicate, which is passed over.
 example : drill_terms (functor 0 ∷ functor 1 ∷ predicate 1 ∷ functor 0 ∷ functor 2 ∷ []) 3

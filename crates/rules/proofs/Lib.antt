@@ -61,3 +61,4 @@ pub mod SearchRuns
 pub mod StoreRuns
 pub mod RefusalRuns
 pub mod ListingRuns
+pub mod DrillRuns

@@ -89,12 +89,12 @@ pub fn open(deck: &[u16]) -> u32 {
     unsafe { c::leads_open(deck.as_ptr(), deck.len()) }
 }
 
-/// 0, or the refusal's number, 1 to 7.
+/// 0, or the refusal's number, 1 to 7, 13 or 14.
 pub fn check(deck: &[u16], query: &[u16]) -> u32 {
     unsafe { c::leads_check(deck.as_ptr(), deck.len(), query.as_ptr(), query.len()) }
 }
 
-/// 0 and the report filled in, or the refusal's number, 1 to 9, with nothing touched.
+/// 0 and the report filled in, or the refusal's number, 1 to 9, 13 or 14, with nothing touched.
 pub fn run(deck: &[u16], query: &[u16], budget: u32, lent: Lent<'_>, report: &mut Report) -> u32 {
     unsafe {
         c::leads_run(
@@ -119,7 +119,7 @@ pub fn run(deck: &[u16], query: &[u16], budget: u32, lent: Lent<'_>, report: &mu
     }
 }
 
-/// Carries on from the goals at the start of the store: 0 and the report filled in, or the refusal's number, 1 to 5, 8, 9 or 12, with nothing touched.
+/// Carries on from the goals at the start of the store: 0 and the report filled in, or the refusal's number, 1 to 5, 8, 9, 12 or 13, with nothing touched.
 pub fn carry_on(deck: &[u16], given: Given, budget: u32, lent: Lent<'_>, report: &mut Report) -> u32 {
     unsafe {
         c::leads_continue(

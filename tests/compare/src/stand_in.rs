@@ -3,6 +3,8 @@
 use second::carry::judge::Engine as Continues;
 use second::carry::{slips, Given};
 use second::cost::slips::SLIPS as PAYING;
+use second::drill::judge as drills;
+use second::drill::slips::SLIPS as DRILLING;
 use second::judge::{Engine as Runs, Lent, Report};
 use second::loose::slips as loose;
 use second::text::judge::{Engine, Second};
@@ -31,13 +33,19 @@ static RUNS: LazyLock<&(dyn Runs + Sync)> = LazyLock::new(|| match loose::SLIPS.
     },
 });
 
+static DRILLS: LazyLock<&dyn drills::Engine> = LazyLock::new(|| match DRILLING.iter().find(|slip| named(slip.name)) {
+    Some(slip) => slip,
+    None => &drills::Second,
+});
+
 /// The slip of this name is asked for. A name that no slip has is an error.
 fn named(name: &str) -> bool {
     std::env::var("SLIP").is_ok_and(|wanted| {
         let texts = SLIPS.iter().map(|slip| slip.name);
         let runs = loose::SLIPS.iter().map(|slip| slip.name);
         let paying = PAYING.iter().map(|slip| slip.name);
-        let mut all = texts.chain(slips::SLIPS.iter().map(|slip| slip.name)).chain(runs).chain(paying);
+        let drilling = DRILLING.iter().map(|slip| slip.name);
+        let mut all = texts.chain(slips::SLIPS.iter().map(|slip| slip.name)).chain(runs).chain(paying).chain(drilling);
         assert!(all.any(|one| one == wanted), "no slip of this name");
         wanted == name
     })
@@ -191,7 +199,6 @@ pub unsafe extern "C" fn leads_drill(
     list_words: usize,
     count: *mut u64,
 ) -> u32 {
-    use second::drill::judge::{Engine as _, Second};
     let (deck, after) = (from_raw_parts(deck, deck_words), from_raw_parts(after, after_words));
-    Second.drill(deck, n, after, from_raw_parts_mut(list, list_words), &mut *count)
+    DRILLS.drill(deck, n, after, from_raw_parts_mut(list, list_words), &mut *count)
 }

@@ -83,6 +83,23 @@ impl<'a> Comparison<'a> {
             for extra in [0, 1, 32_768] {
                 self.call(&of(symbols, n, &[start, &[extra]].concat(), 24))?;
             }
+            self.spoiled(symbols, n, start)?;
+        }
+        Ok(())
+    }
+
+    /// A term with each of its cells in turn made a predicate, a variable or an unknown symbol; cut off there; and whole, where N is too small for it.
+    fn spoiled(&mut self, symbols: &[u16], n: u32, term: &[u16]) -> Result<(), String> {
+        let predicate = symbols.iter().position(|word| *word >= 256).map(|number| number as u16);
+        let wrong = predicate.into_iter().chain([32_768, symbols.len() as u16, 16_384]);
+        for at in 0..term.len() {
+            for cell in wrong.clone() {
+                self.call(&of(symbols, n, &[&term[..at], &[cell], &term[at + 1..]].concat(), 24))?;
+            }
+            if at > 0 {
+                self.call(&of(symbols, n, &term[..at], 24))?;
+            }
+            self.call(&of(symbols, at as u32, term, 24))?;
         }
         Ok(())
     }

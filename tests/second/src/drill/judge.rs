@@ -28,7 +28,7 @@ impl Engine for Second {
 }
 
 /// What a case must come to, of these names.
-pub const COMES_TO: [&str; 12] = [
+pub const COMES_TO: [&str; 18] = [
     "from the start",
     "after a term",
     "after the last term",
@@ -40,7 +40,13 @@ pub const COMES_TO: [&str; 12] = [
     "refused 4",
     "refused 5",
     "refused 19, N",
-    "refused 19, given",
+    "refused 19, a predicate",
+    "refused 19, a variable",
+    "refused 19, an unknown symbol",
+    "refused 19, cells left over",
+    "refused 19, unfinished",
+    "refused 19, over N cells",
+    "refused 19, over N cells and no term",
 ];
 
 /// Stands in a result that is not to be written.
@@ -67,12 +73,37 @@ pub fn judge(engine: &dyn Engine, case: &Case) -> Result<&'static str, String> {
             same("count", &count, &UNSET)?;
             list.holds("list", &[], 0)?;
             Ok(match refused {
-                19 if case.n > MOST_CELLS => COMES_TO[10],
-                19 => COMES_TO[11],
+                19 => COMES_TO[10 + refused_for(case)],
                 _ => COMES_TO[4 + refused as usize],
             })
         }
     }
+}
+
+/// Which of the refusals of 19 this is. Cells with several faults go by the first.
+fn refused_for(case: &Case) -> usize {
+    let fault = fault(&case.deck[8..8 + case.deck[1] as usize], &case.after);
+    match (case.n > MOST_CELLS, case.after.len() > case.n as usize) {
+        (true, _) => 0,
+        (false, false) => fault.expect("a fault"),
+        (false, true) if fault.is_none() => 6,
+        (false, true) => 7,
+    }
+}
+
+/// The first thing that keeps cells from being one variable-free term.
+fn fault(symbols: &[u16], cells: &[u16]) -> Option<usize> {
+    let mut open = 1;
+    for cell in cells {
+        match symbols.get(*cell as usize) {
+            _ if open == 0 => return Some(4),
+            None if *cell >= 32_768 => return Some(2),
+            None => return Some(3),
+            Some(word) if *word >= 256 => return Some(1),
+            Some(word) => open = open - 1 + word,
+        }
+    }
+    (open > 0).then_some(5)
 }
 
 fn label(case: &Case, terms: usize, cells: usize) -> &'static str {

@@ -61,7 +61,29 @@ fn without(deck: &[u16], passed: fn(u16) -> bool) -> Vec<u16> {
     changed
 }
 
-pub const SLIPS: [Slip; 12] = [
+/// The terms that come after these cells in the list's order, though they need not be of it.
+fn beyond(deck: &[u16], n: u32, cells: &[u16], room: usize) -> Result<Vec<Vec<u16>>, u32> {
+    let terms = rest(deck, n, &[])?;
+    let later = terms.into_iter().filter(|term| (term.len(), &term[..]) > (cells.len(), cells));
+    Ok(fitting(later.collect(), room))
+}
+
+/// A deck with its predicates made functors.
+fn functors(deck: &[u16]) -> Vec<u16> {
+    let mut changed = deck.to_vec();
+    for word in changed.iter_mut().skip(8).take(deck[1] as usize) {
+        *word &= 255;
+    }
+    changed
+}
+
+/// The cells with a constant of the deck in each variable's place.
+fn filled(deck: &[u16], cells: &[u16]) -> Option<Vec<u16>> {
+    let constant = deck.iter().skip(8).take(deck[1] as usize).position(|word| *word == 0)? as u16;
+    Some(cells.iter().map(|cell| if *cell < 32_768 { *cell } else { constant }).collect())
+}
+
+pub const SLIPS: [Slip; 15] = [
     Slip {
         name: "the order by length is forgotten",
         drill: |deck, n, after, room| {
@@ -139,6 +161,27 @@ pub const SLIPS: [Slip; 12] = [
     Slip {
         name: "a given term that is not of the list means from the start",
         drill: |deck, n, after, room| drill(deck, n, after, room).or_else(|_| drill(deck, n, &[], room)),
+    },
+    Slip {
+        name: "a predicate is taken in a given term",
+        drill: |deck, n, after, room| match drill(deck, n, after, room) {
+            Err(19) if drill(&functors(deck), n, after, room).is_ok() => beyond(deck, n, after, room),
+            found => found,
+        },
+    },
+    Slip {
+        name: "a variable is taken in a given term",
+        drill: |deck, n, after, room| match drill(deck, n, after, room) {
+            Err(19) if filled(deck, after).is_some_and(|cells| drill(deck, n, &cells, room).is_ok()) => beyond(deck, n, after, room),
+            found => found,
+        },
+    },
+    Slip {
+        name: "a given term of over N cells is taken",
+        drill: |deck, n, after, room| match drill(deck, n, after, room) {
+            Err(19) if n < 8 && drill(deck, 8, after, room).is_ok() => beyond(deck, n, after, room),
+            found => found,
+        },
     },
     Slip {
         name: "functors of arity 7 are passed over",
