@@ -43,6 +43,7 @@ pub record Finished (c : Checked Kept) (deck_words : List ℕ) (terms : ℕ) (an
 
 -- The promises of the functions that print such a run, whatever it came to.
 module _ (deck_words : List ℕ) (terms : ℕ) (answers store : List ℕ) (r : Report) where
+  -- There is such a run: for a `requires`, which cannot quantify over what the rules have.
   abbrev pub SomeFinished : Type 0
   SomeFinished = (c : Checked Kept) × Finished c deck_words terms answers store r
 

@@ -2,7 +2,6 @@
 #![tactic(auto)]
 
 ghost use Rattle.std.specs.Prelude.{◌≡◌, ◌≤◌, ℕ, List, length, IsOk};
-ghost use Rattle.std.specs.Io.KnownBytes.{Consumes};
 ghost use Rattle.case_file.specs.Cases.{Through, TakesNumber, TakesPiece};
 
 use bytes_io::{count, taken};
@@ -28,7 +27,7 @@ impl<F: Read> CaseFile<F> {
 
     // The next number; a byte that is missing is 0.
     pub fn number(&mut self) -> usize
-        ensures taken { (bytes : List ℕ) × (length bytes ≤ self.old.width) × Consumes (F.remaining self.old.file) (F.remaining self.new.file) bytes }
+        ensures taken { TakesNumber F.remaining self.old.width self.old.file self.new.file }
         ensures width { self.new.width ≡ self.old.width }
     {
         let mut bytes = [0u8; 8];
@@ -72,7 +71,7 @@ impl<F: Read> CaseFile<F> {
     // Does the same with each case. The file begins with their number.
     pub fn each<C: Fn(&mut CaseFile<F>) -> io::Result<()>>(&mut self, case: C) -> io::Result<()>
         requires { C.IsAlwaysCallable case }
-        ensures { IsOk result → (first : CaseFile F) × ((bytes : List ℕ) × (length bytes ≤ self.old.width) × Consumes (F.remaining self.old.file) (F.remaining first.file) bytes) × ((n : ℕ) × Through (λ s r t. C.post case s r t) n first self.new) }
+        ensures { IsOk result → (first : CaseFile F) × TakesNumber F.remaining self.old.width self.old.file first.file × ((n : ℕ) × Through (λ s r t. C.post case s r t) n first self.new) }
     {
         for _ in 0..self.number() {
             case(self)?;

@@ -6,8 +6,8 @@ use Rattle.rules.specs.Syntax.{Symbol, Literal, Clause, Deck, Goal, top_goal}
 use Rattle.rules.specs.Refusals.{accepted}
 use Rattle.rules.specs.Decks.{open_deck, symbol_words}
 use Rattle.rules.specs.Goals.{unmarked, goal_words, words_of, write_goals}
-use Rattle.rules.specs.Resolution.{clauses_about, any_oversized, matchings}
-use Rattle.resolvents.specs.Deriving.{Calls, leading_symbol}
+use Rattle.rules.specs.Resolution.{positive, clauses_about, resolvent, resolvents, any_oversized, matchings, selected_cost}
+use Rattle.resolvents.specs.Deriving.{Calls, leading_symbol, equations_of, IsAttempt}
 use Rattle.resolvents.specs.declared.resolve.Resolved as resolved
 use Rattle.resolvents.specs.declared.resolve.Resolved.TheVariants as gives
 use Rattle.goals.specs.Store.{Holding}
@@ -24,6 +24,7 @@ pub record Tries (deck_words cells : List ℕ) (a : Attempt) (d : Deck) (g : Goa
   pub calls : Calls (symbol_words deck_words) cells a.call a.n d.symbols g before p ts after
   pub first : a.first ≡ leading_symbol ts
 
+-- There are such a deck, goal and literal: for a `requires`, which cannot quantify over what the rules have.
 pub record SomeTries (deck_words cells : List ℕ) (a : Attempt) : Type 0 where
   pub deck : Deck
   pub goal : Goal
@@ -38,6 +39,13 @@ abbrev pub AboutCall : List ℕ → List ℕ → Attempt → ℕ → Type 0
 AboutCall deck_words cells a i =
     (d : Deck) (g : Goal) (before : List Literal) (p : ℕ) (ts : Terms) (after : List Literal) (c : Clause)
     → Tries deck_words cells a d g before p ts after → ClauseAt d.clauses i c → c.predicate ≡ p
+
+-- Whatever call the attempt is of, and whatever clause i is: the answer is the derived goal of the literal and the clause.
+abbrev pub AttemptsClause : List ℕ → List ℕ → Attempt → ℕ → ℕ → List ℕ → Option (resolved.Resolved × ℕ) → Type 0
+AttemptsClause deck_words cells a i left child r =
+    (d : Deck) (g : Goal) (before : List Literal) (p : ℕ) (ts : Terms) (after : List Literal) (c : Clause)
+    → Tries deck_words cells a d g before p ts after → ClauseAt d.clauses i c
+    → IsAttempt (resolvent a.n g.answers before ts after c) (equations_of a.n ts c) left child r
 
 -- The equations that the clauses about the literal's predicate take.
 abbrev pub sum_of : Deck → Goal → ℕ → Terms → ℕ
@@ -72,6 +80,12 @@ abbrev pub Writes : List ℕ → ℕ → List Goal → ℕ → ℕ → List ℕ 
 Writes store base ds sum left store' (Some r) = WritesTo store base ds store' r.held × (take base store' ≡ take base store) × (sum + r.left ≡ left)
 Writes store base ds sum left store' None = (left < sum) × (take base store' ≡ take base store)
 
+-- Whatever call the attempt is of: its derived goals are written from base on.
+abbrev pub WritesChildren : List ℕ → List ℕ → Attempt → List ℕ → ℕ → ℕ → List ℕ → Option Derived → Type 0
+WritesChildren deck_words cells a store base left store' r =
+    (d : Deck) (g : Goal) (before : List Literal) (p : ℕ) (ts : Terms) (after : List Literal) → Tries deck_words cells a d g before p ts after
+    → Writes store base (resolvents d.clauses g before p ts after) (sum_of d g p ts) left store' r
+
 -- The first goal held is g, and its `size` cells stand at the start of `cells`.
 pub record Deriving (deck_words store cells : List ℕ) (held size answers s e : ℕ) (d : Deck) (g : Goal) (gs : List Goal) (before : List Literal) (p : ℕ) (ts : Terms) (after : List Literal) : Type 0 where
   pub opens : open_deck deck_words ≡ accepted d
@@ -79,6 +93,7 @@ pub record Deriving (deck_words store cells : List ℕ) (held size answers s e :
   pub sized : goal_words g ≡ size + 2
   pub calls : Calls (symbol_words deck_words) cells (record { len = size; answers = answers; s = s; e = e }) (top_goal g) d.symbols g before p ts after
 
+-- There are such a deck, such goals and such a literal: for a `requires`, which cannot quantify over what the rules have.
 pub record SomeDeriving (deck_words store cells : List ℕ) (held size answers s e : ℕ) : Type 0 where
   pub deck : Deck
   pub first : Goal
@@ -102,3 +117,10 @@ Derives S store held gs ds cost left store' (Err stops.Store) = (any_oversized d
 Derives S store held gs ds cost left store' (Err stops.Budget) = (left < cost) × (take held store' ≡ take held store)
 Derives S store held gs ds cost left store' (Err stops.Answers) = ⊥
 Derives S store held gs ds cost left store' (Err stops.Finished) = ⊥
+
+-- Whatever goal is held first, and whatever literal of it the numbers are of: the step on that literal.
+abbrev pub DerivesCall : List ℕ → List ℕ → List ℕ → ℕ → ℕ → ℕ → ℕ → ℕ → ℕ → List ℕ → Result Derived Stop → Type 0
+DerivesCall deck_words store cells held size answers s e left store' r =
+    (d : Deck) (g : Goal) (gs : List Goal) (before : List Literal) (p : ℕ) (ts : Terms) (after : List Literal)
+    → Deriving deck_words store cells held size answers s e d g gs before p ts after
+    → Derives d.symbols store held gs (resolvents d.clauses g before p ts after) (selected_cost d.clauses g (positive before p ts after)) left store' r

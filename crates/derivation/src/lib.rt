@@ -4,13 +4,9 @@
 
 ghost use Rattle.std.specs.Prelude.{◌≡◌, ℕ, ◌≤◌, ◌<◌, List, length, take};
 ghost use Rattle.std.proofs.Math.Option.{none};
-ghost use Rattle.rules.specs.Terms.{Terms};
-ghost use Rattle.rules.specs.Syntax.{Literal, Clause, Deck, Goal};
 ghost use Rattle.rules.specs.Decks.{clause_words};
-ghost use Rattle.rules.specs.Resolution.{positive, resolvent, resolvents, selected_cost};
-ghost use Rattle.resolvents.specs.Deriving.{equations_of, IsAttempt};
-ghost use Rattle.clauses.specs.Clauses.{ClauseAt};
-ghost use Rattle.derivation.specs.Derives.{Tries, SomeTries, AboutCall, sum_of, Fitting, Placed, Writes, Deriving, SomeDeriving, Derives};
+ghost use Rattle.resolvents.specs.Deriving.{IsAttempt};
+ghost use Rattle.derivation.specs.Derives.{SomeTries, AboutCall, AttemptsClause, Fitting, Placed, WritesChildren, SomeDeriving, DerivesCall};
 
 use clauses::Clauses;
 use goals::restore;
@@ -48,7 +44,7 @@ pub fn derive(
 ) -> Result<Derived, Stop>
     requires some_deriving { SomeDeriving clauses.now.deck.words.now store.old work.old.cells.now held call.len call.answers call.s call.e }
     requires left { 0 < left }
-    ensures derives { (d : Deck) (g : Goal) (gs : List Goal) (before : List Literal) (p : ℕ) (ts : Terms) (after : List Literal) → Deriving clauses.now.deck.words.now store.old work.old.cells.now held call.len call.answers call.s call.e d g gs before p ts after → Derives d.symbols store.old held gs (resolvents d.clauses g before p ts after) (selected_cost d.clauses g (positive before p ts after)) left store.new result }
+    ensures derives { DerivesCall clauses.now.deck.words.now store.old work.old.cells.now held call.len call.answers call.s call.e left store.new result }
 {
     let base = held - 2 - call.len;
     let cells = work.goal(call.len);
@@ -84,7 +80,7 @@ fn put_children(
 ) -> Option<Derived>
     requires some_tries { SomeTries clauses.now.deck.words.now work.old.cells.now attempt }
     requires base { base ≤ length store.old }
-    ensures writes { (d : Deck) (g : Goal) (before : List Literal) (p : ℕ) (ts : Terms) (after : List Literal) → Tries clauses.now.deck.words.now work.old.cells.now attempt d g before p ts after → Writes store.old base (resolvents d.clauses g before p ts after) (sum_of d g p ts) left store.new result }
+    ensures writes { WritesChildren clauses.now.deck.words.now work.old.cells.now attempt store.old base left store.new result }
     ensures cells_unchanged { take attempt.call.len work.new.cells.now ≡ take attempt.call.len work.old.cells.now }
 {
     let mut held = Some(base);
@@ -134,7 +130,7 @@ fn try_clause(
     requires some_tries { SomeTries clauses.now.deck.words.now work.old.cells.now attempt }
     requires about_call { AboutCall clauses.now.deck.words.now work.old.cells.now attempt i }
     requires i_in_bounds { i < length (clause_words clauses.now.deck.words.now) }
-    ensures attempt { (d : Deck) (g : Goal) (before : List Literal) (p : ℕ) (ts : Terms) (after : List Literal) (c : Clause) → Tries clauses.now.deck.words.now work.old.cells.now attempt d g before p ts after → ClauseAt d.clauses i c → IsAttempt (resolvent attempt.n g.answers before ts after c) (equations_of attempt.n ts c) left work.new.draft.child result }
+    ensures attempt { AttemptsClause clauses.now.deck.words.now work.old.cells.now attempt i left work.new.draft.child result }
     ensures cells_unchanged { take attempt.call.len work.new.cells.now ≡ take attempt.call.len work.old.cells.now }
 {
     let clause = clauses.cells(i);

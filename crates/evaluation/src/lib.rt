@@ -1,14 +1,11 @@
 // The public run: its refusals, and an accepted run from the first goal to the report.
 #![tactic(auto)]
 
-ghost use Rattle.std.specs.Prelude.{◌≡◌, ℕ, ◌≤◌, length, List, IfOk};
-ghost use Rattle.rules.specs.Refusals.{accepted, checked_number};
+ghost use Rattle.std.specs.Prelude.{◌≡◌, ℕ, ◌≤◌, length, IfOk};
+ghost use Rattle.rules.specs.Refusals.{checked_number};
 ghost use Rattle.rules.specs.Run.{run, check_sizes};
 ghost use Rattle.deck.specs.Answers.{answer_number, number_of};
-ghost use Rattle.rules.specs.Syntax.{Deck, Goal};
-ghost use Rattle.rules.specs.Goals.{Marked};
-ghost use Rattle.rules.specs.Decks.{open_deck};
-ghost use Rattle.top_level.specs.Top.{Stored, opening, SomeOpening, Topped};
+ghost use Rattle.top_level.specs.Top.{SomeOpening, RunsStored};
 ghost use Rattle.evaluation.specs.Results.{check_sized, result_of, slices};
 
 use clauses::Clauses;
@@ -95,7 +92,7 @@ fn from_goals(
     requires opening { SomeOpening deck.words.now store.old start.parts.parked start.parts.held }
     requires short_store { length store.old ≤ 65535 }
     requires room { 8192 ≤ length scratch.old }
-    ensures { (d : Deck) (gs : List Goal) (ms : List Marked) → open_deck deck.entry.words.now ≡ accepted d → Stored d.symbols store.old start.parts.parked start.parts.held (opening gs ms) → Topped d answers.old store.old gs ms start.budget answers.new store.new result }
+    ensures { RunsStored deck.entry.words.now answers.old store.old start.parts.parked start.parts.held start.budget answers.new store.new result }
 {
     let mut index = Index::blank();
     index.fill(&deck);

@@ -1,6 +1,6 @@
 -- How goals live in the store while a run is under way: the pending goals as the mirror image of their words, so that the first goal
 -- stands at the end of the words held.
-use Rattle.std.specs.Prelude.{ℕ, ◌≤◌, ◌≡◌, List, [], ◌∷◌, reverse, length, take}
+use Rattle.std.specs.Prelude.{ℕ, ◌+◌, ◌-◌, ◌≤◌, ◌≡◌, List, [], ◌∷◌, ◌++◌, reverse, length, get_or, take, drop}
 use Rattle.rules.specs.Terms.{Terms, nil}
 use Rattle.rules.specs.Syntax.{Symbol, pos, Deck, Goal}
 use Rattle.rules.specs.Refusals.{accepted}
@@ -16,19 +16,25 @@ pub record Holding (S : List Symbol) (store : List ℕ) (held : ℕ) (gs : List 
   pub well_formed : All (WfGoal S) gs
   pub words : take held store ≡ reverse (write_goals (unmarked gs))
 
--- An opened deck, and goals held over its symbols, whatever they are; at least one.
+-- There are an opened deck and goals held over its symbols: for a `requires`, which cannot quantify over what the rules have.
 pub record SomeHolding (deck_words store : List ℕ) (held : ℕ) : Type 0 where
   pub deck : Deck
   pub goals : List Goal
   pub opens : open_deck deck_words ≡ accepted deck
   pub holding : Holding deck.symbols store held goals
 
+-- The same with one goal at least: for a `requires`, which cannot quantify over what the rules have.
 pub record SomeFirst (deck_words store : List ℕ) (held : ℕ) : Type 0 where
   pub deck : Deck
   pub first : Goal
   pub goals : List Goal
   pub opens : open_deck deck_words ≡ accepted deck
   pub holding : Holding deck.symbols store held (first ∷ goals)
+
+-- The words held after those from s up to e of the first goal's cells are taken out of it.
+abbrev pub words_without : List ℕ → ℕ → ℕ → ℕ → List ℕ
+words_without store held s e =
+    reverse ((get_or store (held - 1) 0 - (e - s)) ∷ (take (s + 1) (drop 1 (reverse (take held store))) ++ drop (e + 2) (reverse (take held store))))
 
 -- The new level's goal for the atom p(ts).
 abbrev pub atom_goal : ℕ → Terms → Goal

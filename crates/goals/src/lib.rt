@@ -4,7 +4,8 @@
 // `u16::try_from` would want an answer for what does not fit.
 #![tactic(auto)]
 
-ghost use Rattle.std.specs.Prelude.{◌≡◌, ◌+◌, ◌-◌, ◌≤◌, ◌<◌, ◌∷◌, ◌++◌, reverse, length, take, drop, get_or};
+ghost use Rattle.std.specs.Prelude.{◌≡◌, ◌+◌, ◌-◌, ◌≤◌, ◌<◌, ◌∷◌, reverse, length, take, drop, get_or};
+ghost use Rattle.goals.specs.Store.{words_without};
 ghost use Rattle.std.proofs.lemmas.List.Edits.{sets};
 
 // What the first cell of a negative literal has more than that of the positive one: matching's number, on which this crate does not stand.
@@ -56,7 +57,7 @@ pub fn restore(store: &mut [u16], held: usize, cells: &[u16], answers: usize)
 // the caller wants both after this.
 pub fn remove(store: &mut [u16], held: usize, s: usize, e: usize)
     requires { (s ≤ e) × (e + 2 ≤ get_or store.old (held - 1) 0) × (get_or store.old (held - 1) 0 ≤ held) × (held ≤ length store.old) × (0 < held) }
-    ensures { take (held - (e - s)) store.new ≡ reverse ((get_or store.old (held - 1) 0 - (e - s)) ∷ (take (s + 1) (drop 1 (reverse (take held store.old))) ++ drop (e + 2) (reverse (take held store.old)))) }
+    ensures { take (held - (e - s)) store.new ≡ words_without store.old held s e }
 {
     let d = e - s;
     let length = usize::from(store[held - 1]);

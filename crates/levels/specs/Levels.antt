@@ -1,5 +1,5 @@
 -- What a step, a decision and a level say of the rules' evaluation.
-use Rattle.std.specs.Prelude.{ℕ, ◌+◌, ◌-◌, ◌≤◌, ◌<◌, ◌≡◌, Bool, true, false, List, [], ◌∷◌, length, take, drop, Option, Some, None, Result, Ok, Err}
+use Rattle.std.specs.Prelude.{ℕ, suc, ◌+◌, ◌-◌, ◌≤◌, ◌<◌, ◌≡◌, Bool, true, false, List, [], ◌∷◌, length, take, drop, Option, Some, None, Result, Ok, Err}
 use Rattle.rules.specs.Terms.{Terms, vars_terms}
 use Rattle.rules.specs.Syntax.{Symbol, Literal, neg, Clause, Deck, Goal}
 use Rattle.rules.specs.Cells.{write_literal}
@@ -72,6 +72,12 @@ Turned d below store held a g gs store' (Err halt) =
     Later a halt.account × (take held store' ≡ take held store)
     × Halts d.clauses below (length store) (g ∷ gs) (account_of a) (stop_of halt.stop) (account_of halt.account)
 
+-- Whatever deck opens and whatever goals are held: what a step on the first of them comes to.
+abbrev pub TurnsFirst : List ℕ → ℕ → List ℕ → ℕ → Account → List ℕ → Result Turn Halt → Type 0
+TurnsFirst deck_words below store held a store' r =
+    (d : Deck) (g : Goal) (gs : List Goal) → open_deck deck_words ≡ accepted d → Holding d.symbols store held (g ∷ gs)
+    → Turned d below store held a g gs store' r
+
 abbrev pub verdict_for : Verdict → rules.Verdict
 verdict_for Succeeds = rules.succeeds
 verdict_for Fails = rules.fails
@@ -111,7 +117,7 @@ pub record Asking (row : List ℕ) (s e : ℕ) (S : List Symbol) (p : ℕ) (ts :
   pub cells : take (e - s) (drop s row) ≡ write_literal (neg p ts) []
   pub short : goal_words (atom_goal p ts) ≤ 1024
 
--- There are such a deck and such a literal.
+-- There are such a deck and such a literal: for a `requires`, which cannot quantify over what the rules have.
 pub record SomeDecision (deck_words cells : List ℕ) (s e : ℕ) : Type 0 where
   pub deck : Deck
   pub predicate : ℕ
@@ -119,12 +125,19 @@ pub record SomeDecision (deck_words cells : List ℕ) (s e : ℕ) : Type 0 where
   pub opens : open_deck deck_words ≡ accepted deck
   pub asking : Asking cells s e deck.symbols predicate terms
 
+-- Whatever deck opens and whatever negative literal these cells are: what a deeper level says of its atom.
+abbrev pub DecidesAtom : List ℕ → List ℕ → ℕ → ℕ → ℕ → ℕ → Account → Result Reply Halt → Type 0
+DecidesAtom deck_words row s e below room a r =
+    (d : Deck) (p : ℕ) (ts : Terms) → open_deck deck_words ≡ accepted d → Asking row s e d.symbols p ts
+    → Replied d below room (atom_goal p ts ∷ []) a r
+
 -- The first goal held is g, and not p(ts), which is selected in it, stands from s up to e of its cells.
 pub record Negates (S : List Symbol) (store : List ℕ) (held s e : ℕ) (g : Goal) (gs : List Goal) (before : List Literal) (p : ℕ) (ts : Terms) (after : List Literal) : Type 0 where
   pub holding : Holding S store held (g ∷ gs)
   pub selects : select g.literals ≡ negative before p ts after
   pub span : Spans g.answers before (neg p ts) s e
 
+-- There are such goals and such a literal: for a `requires`, which cannot quantify over what the rules have.
 pub record SomeNegates (store : List ℕ) (held s e : ℕ) : Type 0 where
   pub symbols : List Symbol
   pub first : Goal
@@ -141,6 +154,7 @@ pub record Negating (deck_words store row : List ℕ) (held s e : ℕ) (d : Deck
   pub negates : Negates d.symbols store held s e g gs before p ts after
   pub cells : take (length (goal_cells g)) row ≡ goal_cells g
 
+-- There are such a deck, such goals and such a literal: for a `requires`, which cannot quantify over what the rules have.
 pub record SomeNegating (deck_words store row : List ℕ) (held s e : ℕ) : Type 0 where
   pub deck : Deck
   pub first : Goal
@@ -156,6 +170,18 @@ pub record Asked (d : Deck) (below : ℕ) (store : List ℕ) (held : ℕ) (a : A
   pub pays : 0 < a.left
   pub fits : held + goal_words (atom_goal p ts) ≤ length store
   pub replied : Replied d below (length store - held) (atom_goal p ts ∷ []) (paid_one a) r
+
+-- Whatever deck opens and whatever negative literal is selected: what the step on it comes to.
+abbrev pub TurnsNegative : List ℕ → ℕ → List ℕ → List ℕ → ℕ → ℕ → ℕ → Account → List ℕ → Result Turn Halt → Type 0
+TurnsNegative deck_words below store row held s e a store' r =
+    (d : Deck) (g : Goal) (gs : List Goal) (before : List Literal) (p : ℕ) (ts : Terms) (after : List Literal)
+    → Negating deck_words store row held s e d g gs before p ts after → Turned d below store held a g gs store' r
+
+-- The same by the reply of the new level, whatever deck, level and account it was asked with.
+abbrev pub SettlesNegative : List ℕ → ℕ → ℕ → ℕ → Result Reply Halt → List ℕ → Result Turn Halt → Type 0
+SettlesNegative store held s e reply store' r =
+    (d : Deck) (g : Goal) (gs : List Goal) (before : List Literal) (p : ℕ) (ts : Terms) (after : List Literal) (below : ℕ) (a : Account)
+    → Negates d.symbols store held s e g gs before p ts after → Asked d below store held a p ts reply → Turned d (suc below) store held a g gs store' r
 
 -- A step on a positive literal, by what became of the derived goals.
 abbrev pub turn_of : Option ℕ → Account → Turn

@@ -1,14 +1,13 @@
 // A step, the decision of a negative literal by a new level, and a level's run call each other: the levels left fall.
 #![tactic(auto)]
 
-ghost use Rattle.std.specs.Prelude.{◌≡◌, ℕ, suc, ◌+◌, ◌-◌, ◌≤◌, ◌<◌, List, [], ◌∷◌, length, take, IfOk};
-ghost use Rattle.rules.specs.Terms.{Terms};
-ghost use Rattle.rules.specs.Syntax.{Literal, Deck, Goal};
+ghost use Rattle.std.specs.Prelude.{◌≡◌, ◌+◌, ◌-◌, ◌≤◌, ◌<◌, List, length, take, IfOk};
+ghost use Rattle.rules.specs.Syntax.{Deck, Goal};
 ghost use Rattle.rules.specs.Refusals.{accepted};
 ghost use Rattle.rules.specs.Decks.{open_deck};
 ghost use Rattle.rules.specs.Evaluation.{opening};
-ghost use Rattle.goals.specs.Store.{Holding, SomeHolding, SomeFirst, atom_goal};
-ghost use Rattle.levels.specs.Levels.{paid, paid_one, Turned, Replied, Asking, SomeDecision, Negates, SomeNegates, Negating, SomeNegating, Asked, expanded_to, verdict_for, finished_by};
+ghost use Rattle.goals.specs.Store.{Holding, SomeHolding, SomeFirst};
+ghost use Rattle.levels.specs.Levels.{paid, paid_one, TurnsFirst, TurnsNegative, SettlesNegative, Replied, SomeDecision, DecidesAtom, SomeNegates, SomeNegating, expanded_to, verdict_for, finished_by};
 
 use clauses::Clauses;
 use derivation::{Derived, derive};
@@ -126,7 +125,7 @@ pub fn take_step(
 ) -> Result<Turn, Halt>
     requires first { SomeFirst clauses.now.deck.words.now store.old held }
     requires pays { 0 < account.left }
-    ensures { (d : Deck) (g : Goal) (gs : List Goal) → open_deck clauses.now.deck.words.now ≡ accepted d → Holding d.symbols store.old held (g ∷ gs) → Turned d below store.old held account g gs store.new result }
+    ensures { TurnsFirst clauses.now.deck.words.now below store.old held account store.new result }
 {
     let length = usize::from(store[held - 1]);
     let answers = usize::from(store[held - 2]);
@@ -177,7 +176,7 @@ fn negate(
 ) -> Result<Turn, Halt>
     requires negating { SomeNegating clauses.now.deck.words.now store.old work.old.cells.now held call.s call.e }
     requires pays { 0 < account.left }
-    ensures { (d : Deck) (g : Goal) (gs : List Goal) (before : List Literal) (p : ℕ) (ts : Terms) (after : List Literal) → Negating clauses.now.deck.words.now store.old work.old.cells.now held call.s call.e d g gs before p ts after → Turned d below store.old held account g gs store.new result }
+    ensures { TurnsNegative clauses.now.deck.words.now below store.old work.old.cells.now held call.s call.e account store.new result }
 {
     if below == 0 {
         return Ok(Turn::Park(Mark::Deep, account.pay_one()));
@@ -202,7 +201,7 @@ fn settle(
     inner: Result<Reply, Halt>,
 ) -> Result<Turn, Halt>
     requires { SomeNegates store.old held s e }
-    ensures { (d : Deck) (g : Goal) (gs : List Goal) (before : List Literal) (p : ℕ) (ts : Terms) (after : List Literal) (below : ℕ) (account : Account) → Negates d.symbols store.old held s e g gs before p ts after → Asked d below store.old held account p ts inner → Turned d (suc below) store.old held account g gs store.new result }
+    ensures { SettlesNegative store.old held s e inner store.new result }
 {
     let length = usize::from(store[held - 1]);
     let Reply { verdict, account } = inner?;
@@ -230,7 +229,7 @@ pub fn decide(
     requires decision { SomeDecision clauses.now.deck.words.now work.old.cells.now call.s call.e }
     requires deeper { 0 < below }
     requires room { held + (call.e - call.s) + 2 ≤ length store.old }
-    ensures replied { (d : Deck) (p : ℕ) (ts : Terms) → open_deck clauses.now.deck.words.now ≡ accepted d → Asking work.old.cells.now call.s call.e d.symbols p ts → Replied d (below - 1) (length store.old - held) (atom_goal p ts ∷ []) account result }
+    ensures replied { DecidesAtom clauses.now.deck.words.now work.old.cells.now call.s call.e (below - 1) (length store.old - held) account result }
     ensures store_unchanged { take held store.new ≡ take held store.old }
 {
     let n = ask(store, held, &work.cells[call.s..call.e]);

@@ -1,8 +1,7 @@
 -- Whether the variables of a row stand in its positive literals, and the marks by which one walk over the row tells (document 02, U5).
 use Rattle.std.specs.Prelude.{ℕ, ◌+◌, ◌<◌, max, ◌≡◌, Bool, true, false, List, length, get_or, eqb}
 use Rattle.rules.specs.Syntax.{Symbol}
-use Rattle.rules.specs.Loose.{among}
-use Rattle.rules.proofs.FlatLaws.{standing}
+use Rattle.rules.specs.Loose.{among, standing}
 use Rattle.deck.specs.declared.kinds.Kind.{Kind}
 use Rattle.deck.specs.declared.kinds.Kind.TheVariants.{Variable, Function, Positive, Negative, Invalid}
 

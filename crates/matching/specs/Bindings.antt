@@ -3,8 +3,7 @@ use Rattle.std.specs.Prelude.{ℕ, suc, ◌+◌, ◌-◌, ◌<◌, ◌≤◌, �
 use Rattle.std.proofs.Math.Logic.{ite}
 use Rattle.std.proofs.Math.Decide.{ℕ_discrete, dec_lt}
 use Rattle.rules.specs.Terms.{Term, Terms, var, nil, cons, occ}
-use Rattle.rules.specs.Unification.{Substitution, done, bind, apply, applys}
-use Rattle.rules.proofs.TermLaws.{join}
+use Rattle.rules.specs.Unification.{Substitution, done, bind, apply, applys, join}
 use Rattle.matching.specs.Taking.{take_t}
 use Rattle.matching.specs.Cells.{from, term_at, Formed}
 

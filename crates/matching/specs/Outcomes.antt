@@ -3,8 +3,9 @@ use Rattle.std.specs.Prelude.{ℕ, suc, ◌+◌, ◌<◌, ◌≡◌, List}
 use Rattle.std.proofs.Math.Logic.{ite}
 use Rattle.std.proofs.Math.Decide.{ℕ_discrete}
 use Rattle.rules.specs.Terms.{Term, occ}
-use Rattle.rules.specs.Unification.{Substitution, done, bind, Unification, fails, solved, equations, unify}
-use Rattle.rules.proofs.TermLaws.{join}
+use Rattle.rules.specs.Unification.{Substitution, done, bind, Unification, fails, solved, equations, unify, join}
+use Rattle.matching.specs.Taking.{take_t}
+use Rattle.matching.specs.Cells.{from}
 use Rattle.matching.specs.Bindings.{Places, elims, value, alone, seen, Good, State, Trailed}
 use Rattle.matching.specs.declared.unify.Outcome.{Outcome}
 use Rattle.matching.specs.declared.unify.Outcome.TheVariants.{Unified, Failed, Broken}
@@ -42,6 +43,10 @@ RanPair ar cells bs trail n p q left bs' trail' marks' n' a = Ran ar cells bs tr
 abbrev pub RanPairs : List ℕ → List ℕ → Places → List ℕ → ℕ → ℕ → ℕ → ℕ → ℕ → Places → List ℕ → List ℕ → ℕ → Outcome → Type 0
 RanPairs ar cells bs trail n p q k left bs' trail' marks' n' a = Ran ar cells bs trail n (unify (seen ar cells bs trail n p k) (seen ar cells bs trail n q k)) left bs' trail' marks' n' a
 
+-- the unification of the first `number` terms at p with those at q
+abbrev pub unified : List ℕ → List ℕ → ℕ → ℕ → ℕ → Unification
+unified ar cells p q number = unify (take_t number (from ar cells p)) (take_t number (from ar cells q))
+
 -- a is the outcome o, whose substitution is es, with what is left of `left`; or o takes more
 abbrev pub Is : Unification → ℕ → Substitution → Outcome → Type 0
 Is o left es (Unified l) = (k : ℕ) × (o ≡ solved k es) × (k + l ≡ left)
@@ -53,3 +58,7 @@ pub record Ended (ar cells : List ℕ) (o : Unification) (left : ℕ) (bs : Plac
   pub good : Good ar cells bs trail n
   pub trailed : Trailed bs trail marks n
   pub is : Is o left (elims ar cells bs trail n) a
+
+-- the same of the first `number` terms at p and those at q
+abbrev pub EndedPairs : List ℕ → List ℕ → ℕ → ℕ → ℕ → ℕ → Places → List ℕ → List ℕ → ℕ → Outcome → Type 0
+EndedPairs ar cells p q number left bs trail marks n a = Ended ar cells (unified ar cells p q number) left bs trail marks n a

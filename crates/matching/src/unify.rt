@@ -4,11 +4,9 @@
 // parameters: lent as `&mut`, a struct of both would have to promise in each contract that the terms and the table's reference stay.
 ghost use Rattle.std.specs.Prelude.{◌≡◌, ◌≤◌, length};
 ghost use Rattle.rules.specs.Terms.{count};
-ghost use Rattle.rules.specs.Unification.{unify};
-ghost use Rattle.matching.specs.Taking.{take_t};
 ghost use Rattle.matching.specs.Cells.{from};
 ghost use Rattle.matching.specs.Bindings.{State, Paired, Free, Final, Ready, Blank};
-ghost use Rattle.matching.specs.Outcomes.{RanVariable, RanPair, RanPairs, Ended};
+ghost use Rattle.matching.specs.Outcomes.{RanVariable, RanPair, RanPairs, EndedPairs};
 
 use super::bindings::{Bound, Table};
 use super::cells::{FlatTerms, VARIABLE};
@@ -117,7 +115,7 @@ pub fn unify_terms(
     requires blank { Blank table.old.bind table.old.marks }
     requires left_bound { number ≤ count (from terms.now.symbols.now terms.now.cells.now p) }
     requires right_bound { number ≤ count (from terms.now.symbols.now terms.now.cells.now q) }
-    ensures { Ended terms.now.symbols.now terms.now.cells.now (unify (take_t number (from terms.now.symbols.now terms.now.cells.now p)) (take_t number (from terms.now.symbols.now terms.now.cells.now q))) left table.new.bind table.new.trail table.new.marks table.new.bound result }
+    ensures { EndedPairs terms.now.symbols.now terms.now.cells.now p q number left table.new.bind table.new.trail table.new.marks table.new.bound result }
 {
     table.bound = 0;
     pairs(terms, table, left, p, q, number)

@@ -4,6 +4,7 @@ use Rattle.rules.specs.Terms.{Terms, ◌+++◌, count, size, sizes}
 use Rattle.rules.specs.Unification.{Unification, fails, spent, solved, equations, applys}
 use Rattle.matching.specs.Cells.{from, term_at, Formed}
 use Rattle.matching.specs.Bindings.{Places, elims}
+use Rattle.matching.specs.Outcomes.{unified}
 use Rattle.resolvents.specs.Naming.{within, order_after, cells_under, Wrote}
 use Rattle.matching.specs.declared.bindings.Bound.{Bound}
 use Rattle.resolvents.specs.declared.resolve.Call.{Call}
@@ -74,3 +75,8 @@ pub record Together (ar cells : List ℕ) (call : Call) (number : ℕ) : Type 0 
   pub clause : call.len < length cells
   pub literal : number ≤ count (from ar cells (call.s + 1))
   pub head : number ≤ count (from ar cells (call.len + 1))
+
+-- What unification makes of the first `number` terms of the literal and of the head, with the answer terms and the literals of the cells.
+abbrev pub ResolvesCells : List ℕ → List ℕ → Call → ℕ → ℕ → List ℕ → Option (Resolved × ℕ) → Type 0
+ResolvesCells ar cells call number left child r =
+    AttemptedBy (unified ar cells (call.s + 1) (call.len + 1) number) left (within ar cells 0 call.answers) (literals_before ar cells call) child r

@@ -2,11 +2,11 @@
 use Rattle.std.specs.Prelude.{ℕ, ◌+◌, ◌≤◌, ◌<◌, ◌≡◌, List, ◌∷◌, ◌++◌, length, take, Option, Some, None}
 use Rattle.std.proofs.Math.Option as math
 use Rattle.std.proofs.Math.Option.{none, some}
-use Rattle.rules.specs.Terms.{app, var, Terms, nil, cons}
+use Rattle.rules.specs.Terms.{app, var, Terms, nil, cons, count}
 use Rattle.rules.specs.Syntax.{Symbol, Literal, pos, Clause, Goal, top_goal}
 use Rattle.rules.specs.Decks.{write_clause}
-use Rattle.rules.specs.Unification.{equations, unify}
-use Rattle.rules.specs.Resolution.{fresh}
+use Rattle.rules.specs.Unification.{fails, equations, unify}
+use Rattle.rules.specs.Resolution.{fresh, resolvent}
 use Rattle.rules.specs.Goals.{goal_words, marked, pending, write_goal}
 use Rattle.rules.specs.WellFormed.{WfClause}
 use Rattle.matching.specs.Bindings.{Blank}
@@ -32,7 +32,7 @@ pub record Calls (ar cells : List ℕ) (call : Call) (n : ℕ) (S : List Symbol)
   pub span : Spans g.answers before (pos p ts) call.s call.e
   pub fresh : n ≡ top_goal g
 
--- There is such a goal.
+-- There are such a goal and such a literal: for a `requires`, which cannot quantify over what the rules have.
 pub record SomeGoalCall (ar cells : List ℕ) (call : Call) : Type 0 where
   pub n : ℕ
   pub symbols : List Symbol
@@ -55,7 +55,7 @@ pub record About (clause : List ℕ) (S : List Symbol) (p : ℕ) (c : Clause) : 
   pub cells : clause ≡ write_clause c
   pub about : c.predicate ≡ p
 
--- There are such a goal and such a clause.
+-- There are such a goal and such a clause: for a `requires`, which cannot quantify over what the rules have.
 pub record SomeCall (ar cells clause : List ℕ) (call : Call) (n : ℕ) : Type 0 where
   pub symbols : List Symbol
   pub goal : Goal
@@ -84,3 +84,22 @@ equations_of n ts c = equations (unify ts (fresh n c.arguments))
 abbrev pub IsAttempt : math.Option Goal → ℕ → ℕ → List ℕ → Option (Resolved × ℕ) → Type 0
 IsAttempt o k left child (Some x) = (k + x.1 ≡ left) × IsResolvent o child x.0
 IsAttempt o k left child None = left < k
+
+-- Whatever goal and literal the call is of: r is the symbol that the literal's first argument begins with.
+abbrev pub BeginsWith : List ℕ → List ℕ → Call → Option ℕ → Type 0
+BeginsWith ar cells call r =
+    (S : List Symbol) (g : Goal) (before : List Literal) (p : ℕ) (ts : Terms) (after : List Literal) (n : ℕ) → Calls ar cells call n S g before p ts after
+    → r ≡ leading_symbol ts
+
+-- Whatever clause has these cells: its unification with a literal whose first argument begins with `first` fails at the first equation.
+abbrev pub FailsFirst : Option ℕ → List ℕ → Type 0
+FailsFirst first clause =
+    (ts : Terms) (c : Clause) (n : ℕ) → first ≡ leading_symbol ts → count ts ≡ count c.arguments → clause ≡ write_clause c
+    → unify ts (fresh n c.arguments) ≡ fails 1
+
+-- Whatever goal and literal the call is of, and whatever clause about its predicate has these cells: the answer is their derived goal.
+abbrev pub ResolvesClause : List ℕ → List ℕ → Call → ℕ → List ℕ → ℕ → List ℕ → Option (Resolved × ℕ) → Type 0
+ResolvesClause ar cells call n clause left child r =
+    (S : List Symbol) (g : Goal) (before : List Literal) (p : ℕ) (ts : Terms) (after : List Literal) (c : Clause)
+    → Calls ar cells call n S g before p ts after → About clause S p c
+    → IsAttempt (resolvent n g.answers before ts after c) (equations_of n ts c) left child r

@@ -3,11 +3,11 @@ use Rattle.std.specs.Prelude.{ℕ, suc, ◌+◌, ◌≡◌, List}
 use Rattle.std.proofs.Math.Option.{some}
 use Rattle.rules.specs.Terms.{Terms, sizes}
 use Rattle.rules.specs.Syntax.{Symbol, Literal, pos, neg, Goal, arguments}
+use Rattle.rules.specs.Cells.{literal_sizes}
 use Rattle.rules.specs.Decks.{read_all, read_symbol}
 use Rattle.rules.specs.Goals.{goal_cells}
 use Rattle.rules.specs.Resolution.{Selection, nothing, positive, negative}
 use Rattle.rules.specs.WellFormed.{WfGoal}
-use Rattle.rules.proofs.CellLaws.{literal_sizes}
 use Rattle.resolvents.specs.declared.select.Selected.{Selected}
 use Rattle.resolvents.specs.declared.select.Selected.TheVariants.{Nothing, Positive, Negative}
 
@@ -18,7 +18,7 @@ pub record GoalCells (ar cells : List ℕ) (answers : ℕ) (S : List Symbol) (g 
   pub goal : cells ≡ goal_cells g
   pub wide : answers ≡ sizes g.answers
 
--- There is such a goal.
+-- There is such a goal: for a `requires`, which cannot quantify over what the rules have.
 pub record SomeGoal (ar cells : List ℕ) (answers : ℕ) : Type 0 where
   pub symbols : List Symbol
   pub goal : Goal

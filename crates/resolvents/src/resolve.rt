@@ -1,17 +1,9 @@
 // The derived goal of a goal's selected literal and a clause. Numbers of at most 1,024 are made words by `as`: they are proved to fit, and
 // `u16::try_from` would have an `Err` that never comes.
-ghost use Rattle.std.specs.Prelude.{◌≡◌, ℕ, ◌+◌, ◌≤◌, ◌<◌, true, false, List, length, take, get_or, IfSome};
-ghost use Rattle.rules.specs.Terms.{Terms, count};
-ghost use Rattle.rules.specs.Syntax.{Symbol, Literal, Clause, Goal};
-ghost use Rattle.rules.specs.Decks.{write_clause};
-ghost use Rattle.rules.specs.Unification.{unify, fails};
-ghost use Rattle.rules.specs.Resolution.{fresh, resolvent};
-ghost use Rattle.matching.specs.Taking.{take_t};
-ghost use Rattle.matching.specs.Cells.{from};
-ghost use Rattle.matching.specs.Outcomes.{Ended};
-ghost use Rattle.resolvents.specs.Naming.{within, all_by};
-ghost use Rattle.resolvents.specs.Deriving.{Rows, Calls, About, SomeGoalCall, SomeCall, leading_symbol, equations_of, IsAttempt};
-ghost use Rattle.resolvents.specs.Child.{literals_by, Ranges, GoalWritten, IsChild, AttemptedBy, literals_before, Together};
+ghost use Rattle.std.specs.Prelude.{◌≡◌, ◌+◌, ◌≤◌, ◌<◌, true, false, length, take, get_or, IfSome};
+ghost use Rattle.resolvents.specs.Naming.{all_by};
+ghost use Rattle.resolvents.specs.Deriving.{Rows, SomeGoalCall, SomeCall, BeginsWith, FailsFirst, ResolvesClause};
+ghost use Rattle.resolvents.specs.Child.{literals_by, Ranges, GoalWritten, IsChild, Together, ResolvesCells};
 
 use crate::fresh::copy_fresh;
 use crate::put::{Draft, Full};
@@ -43,7 +35,7 @@ impl Call {
     // The symbol that the literal's first argument begins with: none where there is no argument, or a variable.
     pub fn first_symbol(self, symbols: &[u16], cells: &[u16]) -> Option<u16>
         requires { SomeGoalCall symbols.now cells.now self }
-        ensures { (S : List Symbol) (g : Goal) (before : List Literal) (p : ℕ) (ts : Terms) (after : List Literal) (n : ℕ) → Calls symbols.now cells.now self n S g before p ts after → result ≡ leading_symbol ts }
+        ensures { BeginsWith symbols.now cells.now self result }
     {
         if arity_of(symbols, usize::from(cells[self.s])) == 0 {
             return None;
@@ -59,7 +51,7 @@ impl Call {
 // Whether a clause's first argument begins with another symbol than `first`. It then fails at its first equation.
 pub fn begins_otherwise(first: Option<u16>, clause: &[u16]) -> bool
     requires { IfSome first (λ f. 1 < length clause.now) }
-    ensures fails { result ≡ true → (ts : Terms) (c : Clause) (n : ℕ) → first ≡ leading_symbol ts → count ts ≡ count c.arguments → clause.now ≡ write_clause c → unify ts (fresh n c.arguments) ≡ fails 1 }
+    ensures fails { result ≡ true → FailsFirst first clause.now }
     ensures goes_on { result ≡ false → IfSome first (λ f. get_or clause.now 1 0 < 32768 → get_or clause.now 1 0 ≡ f) }
 {
     first.is_some_and(|first| clause[1] < VARIABLE && clause[1] != first)
@@ -121,7 +113,7 @@ fn resolve_cells(
 ) -> Option<(Resolved, u32)>
     requires together { Together symbols.now cells.now call number }
     requires rows { Rows table.old draft.old }
-    ensures attempted_by { AttemptedBy (unify (take_t number (from symbols.now cells.now (call.s + 1))) (take_t number (from symbols.now cells.now (call.len + 1)))) left (within symbols.now cells.now 0 call.answers) (literals_before symbols.now cells.now call) draft.new.child result }
+    ensures attempted_by { ResolvesCells symbols.now cells.now call number left draft.new.child result }
     ensures rows_after { Rows table.new draft.new }
 {
     let terms = FlatTerms { cells, symbols };
@@ -152,7 +144,7 @@ pub fn resolve_clause(
     left: u32,
 ) -> Option<(Resolved, u32)>
     requires { SomeCall symbols.now work.old.cells.now clause.now call n }
-    ensures attempt { (S : List Symbol) (g : Goal) (before : List Literal) (p : ℕ) (ts : Terms) (after : List Literal) (c : Clause) → Calls symbols.now work.old.cells.now call n S g before p ts after → About clause.now S p c → IsAttempt (resolvent n g.answers before ts after c) (equations_of n ts c) left work.new.draft.child result }
+    ensures attempt { ResolvesClause symbols.now work.old.cells.now call n clause.now left work.new.draft.child result }
     ensures cells_unchanged { take call.len work.new.cells.now ≡ take call.len work.old.cells.now }
 {
     let Call { len, s, .. } = call;

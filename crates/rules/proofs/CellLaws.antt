@@ -14,6 +14,7 @@ use borrow.Author.Tests.{le-leb, lt-leb, leb-true}
 use Rattle.rules.specs.Terms.{Term, var, app, Terms, nil, cons, ◌+++◌, count, size, sizes, vars_term, vars_terms}
 use Rattle.rules.specs.Syntax.{Symbol, functor, predicate, Literal, pos, neg, arguments, vars_literals}
 use Rattle.rules.specs.Cells.{write_term, write_terms, write_literals, Cell, variable, function, positive, negative, invalid, symbol_cell, negated_cell, variable_cell, read_cell, Taken, taken, take_one, take_terms, Row, row, put_term, put_literal, put_cell, read_row, only_literals, numbered, keep_numbered, read_literals}
+pub use Rattle.rules.specs.Cells.{literal_sizes}
 use Rattle.rules.specs.WellFormed.{All, WfTerm, WfTerms, WfLiterals, InOrder}
 use Rattle.rules.proofs.ListLaws.{all-weaken}
 use Rattle.rules.proofs.TermLaws.{join-nil}
@@ -31,11 +32,6 @@ mutual
   pub terms-length : (ts : Terms) (rest : List ℕ) → length (write_terms ts rest) ≡ sizes ts + length rest
   terms-length nil rest = omega arith
   terms-length (cons t ts) rest = omega (arith, term-length t (write_terms ts rest), terms-length ts rest)
-
--- The cells of literals: one for each predicate, and those of its terms.
-abbrev pub literal_sizes : List Literal → ℕ
-literal_sizes [] = 0
-literal_sizes (l ∷ ls) = suc (sizes (arguments l)) + literal_sizes ls
 
 pub literals-length : (ls : List Literal) → length (write_literals ls) ≡ literal_sizes ls
 literals-length [] = refl

@@ -9,22 +9,10 @@ use Rattle.rules.specs.Syntax.{Symbol, Literal, pos, neg, map_literals, vars_lit
 use Rattle.rules.specs.Cells.{write_term, write_terms, write_literals, Cell, variable, function, positive, negative, invalid, read_cell}
 use Rattle.rules.specs.WellFormed.{All, WfTerm, WfTerms, WfLiterals}
 use Rattle.rules.specs.Loose.{positives, among, tight}
+unfoldable pub use Rattle.rules.specs.Loose.{standing_at, standing}
 use Rattle.rules.proofs.CellLaws.{Small, read_cell-var, after-term, after-terms}
 
 -- VARIABLES
--- The variables that stand in cells, where `inside` says whether those at the start count, and `keep` whether those in negative literals do.
-unfoldable pub standing_at : Bool → Cell → Bool → (Bool → List ℕ) → List ℕ
-standing_at keep (variable v) true go = v ∷ go true
-standing_at keep (variable v) false go = go false
-standing_at keep (function f k) inside go = go inside
-standing_at keep (positive p k) inside go = go true
-standing_at keep (negative p k) inside go = go keep
-standing_at keep invalid inside go = go inside
-
-unfoldable pub standing : List Symbol → Bool → Bool → List ℕ → List ℕ
-standing S keep inside [] = []
-standing S keep inside (c ∷ cs) = standing_at keep (read_cell S c) inside (λ b. standing S keep b cs)
-
 -- What terms add to the variables that follow, and what literals come to.
 abbrev term_adds : Bool → Term → List ℕ → List ℕ
 term_adds true t rest = vars_term t rest

@@ -6,6 +6,7 @@ use native.Mathlib.Decide.{ℕ_discrete}
 use native.Mathlib.Omega.{arith}
 use Rattle.rules.specs.Terms.{Term, Terms, var, app, nil, cons, sub, subs, occ, occs, size, sizes, top, tops, ◌+++◌, count}
 use Rattle.rules.specs.Unification.{Substitution, done, bind, apply, applys}
+pub use Rattle.rules.specs.Unification.{join}
 
 pub ite-yes : {P X : Type 0} (d : Dec P) (a b : X) → P → ite d a b ≡ a
 ite-yes (yes p) a b h = refl
@@ -155,10 +156,6 @@ applys-count done ts = refl
 applys-count (bind x s es) ts = applys-count es (subs x s ts) ∙ subs-count x s ts
 
 -- One substitution and then another.
-abbrev pub join : Substitution → Substitution → Substitution
-join done fs = fs
-join (bind x s es) fs = bind x s (join es fs)
-
 pub apply-join : (es fs : Substitution) (t : Term) → apply (join es fs) t ≡ apply fs (apply es t)
 apply-join done fs t = refl
 apply-join (bind x s es) fs t = apply-join es fs (sub x s t)

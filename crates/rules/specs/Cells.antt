@@ -3,8 +3,8 @@
 use Rattle.std.specs.Prelude.{ℕ, zero, suc, ◌+◌, ◌-◌, max, Bool, true, false, ◌&&◌, List, [], ◌∷◌, leb}
 use Rattle.std.proofs.Math.Option.{Option, none, some}
 use Rattle.std.proofs.Math.ListN.{get_elem?}
-use Rattle.rules.specs.Terms.{Term, var, app, Terms, nil, cons}
-use Rattle.rules.specs.Syntax.{Symbol, functor, predicate, Literal, pos, neg, vars_literals}
+use Rattle.rules.specs.Terms.{Term, var, app, Terms, nil, cons, sizes}
+use Rattle.rules.specs.Syntax.{Symbol, functor, predicate, Literal, pos, neg, arguments, vars_literals}
 
 -- A cell is a symbol number; 16,384 plus a predicate's number (that predicate negated); or 32,768 plus a variable number.
 -- A symbol is followed by as many terms as its arity.
@@ -24,6 +24,11 @@ write_literal (neg p ts) rest = (16384 + p) ∷ write_terms ts rest
 abbrev pub write_literals : List Literal → List ℕ
 write_literals [] = []
 write_literals (l ∷ ls) = write_literal l (write_literals ls)
+
+-- How many cells literals take: one for each predicate, and those of its terms.
+abbrev pub literal_sizes : List Literal → ℕ
+literal_sizes [] = 0
+literal_sizes (l ∷ ls) = suc (sizes (arguments l)) + literal_sizes ls
 
 -- What a cell stands for: a variable's number; or the number and the arity of a functor, a predicate, a negated predicate.
 pub data Cell : Type 0 where

@@ -18,6 +18,11 @@ abbrev pub applys : Substitution → Terms → Terms
 applys done ts = ts
 applys (bind x s es) ts = applys es (subs x s ts)
 
+-- One substitution and then another.
+abbrev pub join : Substitution → Substitution → Substitution
+join done fs = fs
+join (bind x s es) fs = bind x s (join es fs)
+
 -- What unification comes to, with the number of equations taken from the list, the failing one included.
 -- `spent` is said where a bound of the definition is spent, which does not occur (`unify-unspent`).
 pub data Unification : Type 0 where

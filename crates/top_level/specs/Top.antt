@@ -5,7 +5,7 @@ use Rattle.rules.specs.Syntax.{Symbol, Literal, Deck, Goal}
 use Rattle.rules.specs.Cells.{write_literals}
 use Rattle.rules.specs.Refusals.{accepted}
 use Rattle.rules.specs.Decks.{open_deck, read_all, read_symbol}
-use Rattle.rules.specs.Goals.{Marked, unmarked, words_of, marked_words, write_goals}
+use Rattle.rules.specs.Goals.{Marked, unmarked, goal_words, words_of, marked_words, write_goals}
 use Rattle.rules.specs.WellFormed.{All, WfGoal, WfMarked, WfQuery}
 use Rattle.rules.specs.Evaluation as rules
 use Rattle.rules.specs.Evaluation.{Level, Ended, evaluate_level, zeroth, ended, stopped, with_parked}
@@ -22,22 +22,31 @@ use Rattle.top_level.specs.declared.Counts.{Counts}
 use Rattle.top_level.specs.declared.Progress.{Progress}
 use Rattle.top_level.specs.declared.End.{End}
 
+-- The store holds the goals of l: the parked ones in its first words, the pending ones after them.
 pub record Stored (S : List Symbol) (store : List ℕ) (parked held : ℕ) (l : Level) : Type 0 where
   pub inside : parked ≤ length store
   pub first : take parked store ≡ write_goals l.parked
   pub parked_formed : All (WfMarked S) l.parked
   pub pending : Holding S (drop parked store) held l.pending
 
+-- There is such a level: for a `requires`, which cannot quantify over what the rules have.
 pub record SomeStored (store : List ℕ) (parked held : ℕ) : Type 0 where
   pub symbols : List Symbol
   pub level : Level
   pub stored : Stored symbols store parked held level
+
+-- Whatever level is stored with a pending goal: its first goal, of n words, goes behind the parked ones.
+abbrev pub ParksFirst : List ℕ → ℕ → ℕ → declared.Mark → List ℕ → ℕ → Type 0
+ParksFirst store parked held mark store' n =
+    (S : List Symbol) (l : Level) (g : Goal) (gs : List Goal) → l.pending ≡ g ∷ gs → Stored S store parked held l
+    → (n ≡ goal_words g) × (n ≤ held) × Stored S store' (parked + n) (held - n) (with_parked (mark_of mark) g gs l)
 
 -- The words are those of the goals ms.
 pub record Written (S : List Symbol) (words : List ℕ) (ms : List Marked) : Type 0 where
   pub well_formed : All (WfMarked S) ms
   pub are : words ≡ write_goals ms
 
+-- There are such goals: for a `requires`, which cannot quantify over what the rules have.
 pub record SomeWritten (words : List ℕ) : Type 0 where
   pub symbols : List Symbol
   pub goals : List Marked
@@ -49,6 +58,7 @@ pub record Queries (ar words : List ℕ) (S : List Symbol) (q : List Literal) : 
   pub well_formed : WfQuery S q
   pub are : words ≡ write_literals q
 
+-- There is such a query: for a `requires`, which cannot quantify over what the rules have.
 pub record SomeQuery (words : List ℕ) : Type 0 where
   pub symbol_words : List ℕ
   pub symbols : List Symbol
@@ -89,7 +99,7 @@ opening gs ms = record { pending = gs; parked = ms; answers = [] }
 abbrev pub begun : Started → Level
 begun s = opening s.goals s.parked
 
--- An opened deck, and goals stored over its symbols, whatever they are.
+-- There are an opened deck and goals stored over its symbols: for a `requires`, which cannot quantify over what the rules have.
 pub record SomeOpening (deck_words store : List ℕ) (parked held : ℕ) : Type 0 where
   pub deck : Deck
   pub goals : List Goal
@@ -118,6 +128,7 @@ pub record Goes (s : Started) (answers store : List ℕ) (p : Progress) : Type 0
   pub paid : p.account.steps + p.account.left ≤ s.budget
   pub few : p.listed ≤ p.filled
 
+-- There is such a run, on an opened deck: for a `requires`, which cannot quantify over what the rules have.
 pub record SomeGoes (deck_words answers store : List ℕ) (p : Progress) : Type 0 where
   pub started : Started
   pub opens : open_deck deck_words ≡ accepted started.deck
@@ -132,6 +143,7 @@ pub record Stops (s : Started) (answers store : List ℕ) (e : End) : Type 0 whe
   pub room : length answers ≡ length s.answers
   pub paid : e.at.account.left ≤ s.budget
 
+-- There is such a run: for a `requires`, which cannot quantify over what the rules have.
 pub record SomeStops (store : List ℕ) (e : End) : Type 0 where
   pub started : Started
   pub answers : List ℕ
@@ -146,6 +158,7 @@ pub record Bare (s : Started) (answers store : List ℕ) (p : Progress) : Type 0
   pub empty : goal.literals ≡ []
   pub pays : 0 < p.account.left
 
+-- There is such a run: for a `requires`, which cannot quantify over what the rules have.
 pub record SomeBare (answers store : List ℕ) (p : Progress) : Type 0 where
   pub started : Started
   pub is : Bare started answers store p
@@ -175,6 +188,7 @@ Stepped s answers store p (Ok (Park m b)) = Waits s answers store p m b
 Stepped s answers store p (Ok (More h b)) = (b.left < p.account.left) × Goes s answers store (moved p h b)
 Stepped s answers store p (Err halt) = Stops s answers store (end_of p halt)
 
+-- There is such a run: for a `requires`, which cannot quantify over what the rules have.
 pub record SomeStepped (answers store : List ℕ) (p : Progress) (t : Result Turn Halt) : Type 0 where
   pub started : Started
   pub is : Stepped started answers store p t
@@ -201,3 +215,9 @@ pub record Topped (d : Deck) (answers store : List ℕ) (gs : List Goal) (ms : L
   pub listed : answers' ≡ write_goals (unmarked level.answers) ++ drop (words_of level.answers) answers
   pub answered : r.answers ≡ length level.answers
   pub ordered : Ordered level store' (record { pending = r.pending; parked = r.parked })
+
+-- Whatever deck opens and whatever goals are stored: what level 0's run from them leaves and reports.
+abbrev pub RunsStored : List ℕ → List ℕ → List ℕ → ℕ → ℕ → ℕ → List ℕ → List ℕ → Report → Type 0
+RunsStored deck_words answers store parked held budget answers' store' r =
+    (d : Deck) (gs : List Goal) (ms : List Marked) → open_deck deck_words ≡ accepted d → Stored d.symbols store parked held (opening gs ms)
+    → Topped d answers store gs ms budget answers' store' r

@@ -3,13 +3,13 @@
 #![tactic(auto)]
 
 ghost use Rattle.std.specs.Prelude.{◌≡◌, ℕ, ◌+◌, ◌-◌, ◌≤◌, ◌<◌, List, [], ◌∷◌, length, Ok};
-ghost use Rattle.rules.specs.Syntax.{Symbol, Literal, Deck, Goal};
+ghost use Rattle.rules.specs.Syntax.{Symbol, Literal, Goal};
 ghost use Rattle.rules.specs.Refusals.{accepted};
 ghost use Rattle.rules.specs.Decks.{open_deck};
-ghost use Rattle.rules.specs.Goals.{Marked, goal_words, first_goal};
-ghost use Rattle.rules.specs.Evaluation.{Level, with_parked};
-ghost use Rattle.goals.specs.Store.{Holding, mark_of};
-ghost use Rattle.top_level.specs.Top.{Stored, SomeStored, Written, SomeWritten, Queries, SomeQuery, Ordered, Topped, Started, Goes, SomeGoes, Bare, SomeBare, Stepped, SomeStepped, Follows, Due, Stops, SomeStops, opening, SomeOpening, InOrder, end_of};
+ghost use Rattle.rules.specs.Goals.{Marked, first_goal};
+ghost use Rattle.rules.specs.Evaluation.{Level};
+ghost use Rattle.goals.specs.Store.{Holding};
+ghost use Rattle.top_level.specs.Top.{Stored, SomeStored, ParksFirst, Written, SomeWritten, Queries, SomeQuery, Ordered, Topped, Started, Goes, SomeGoes, Bare, SomeBare, Stepped, SomeStepped, Follows, Due, Stops, SomeStops, opening, SomeOpening, RunsStored, InOrder, end_of};
 
 use clauses::Clauses;
 use goals::{MARK, Mark};
@@ -77,7 +77,7 @@ pub struct End {
 fn park(store: &mut [u16], parts: Parts, mark: Mark) -> usize
     requires stored { SomeStored store.old parts.parked parts.held }
     requires pending { 0 < parts.held }
-    ensures { (S : List Symbol) (l : Level) (g : Goal) (gs : List Goal) → l.pending ≡ g ∷ gs → Stored S store.old parts.parked parts.held l → (result ≡ goal_words g) × (result ≤ parts.held) × Stored S store.new (parts.parked + result) (parts.held - result) (with_parked (mark_of mark) g gs l) }
+    ensures { ParksFirst store.old parts.parked parts.held mark store.new result }
 {
     let Parts { parked, held } = parts;
     let end = parked + held;
@@ -214,7 +214,7 @@ pub fn top(
 ) -> Report
     requires opening { SomeOpening clauses.now.deck.words.now store.old start.parts.parked start.parts.held }
     requires short_store { length store.old ≤ 65535 }
-    ensures { (d : Deck) (gs : List Goal) (ms : List Marked) → open_deck clauses.now.deck.words.now ≡ accepted d → Stored d.symbols store.old start.parts.parked start.parts.held (opening gs ms) → Topped d answers.old store.old gs ms start.budget answers.new store.new result }
+    ensures { RunsStored clauses.now.deck.words.now answers.old store.old start.parts.parked start.parts.held start.budget answers.new store.new result }
 {
     let Start { parts, budget } = start;
     let mut at = Progress {
