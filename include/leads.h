@@ -45,11 +45,13 @@ uint32_t leads_check(const uint16_t *deck, size_t deck_words, const uint16_t *qu
  *                 do not fit the store
  *   steps         the steps used over all levels, at most the cost
  *   cost          what they cost together, at most the budget. A step on a positive literal costs 1 and one more for each equation that
- *                 matching takes, over every clause about its predicate, whether it matches or not; so looking through a thousand facts
- *                 of one place costs a thousand. Every other step costs 1. A step is taken only if its whole cost is left, so a
- *                 run may stop with 1 and budget left; a step not taken adds nothing to steps or cost. A match is broken off where its
- *                 equations pass what is left, so doubled terms do not make a call run on. The cost is not a time: an
- *                 equation between long terms with many variables can take a millisecond
+ *                 matching takes, over every clause tried, whether it matches or not. Up to 64 clauses about the predicate are all tried;
+ *                 of more, where the literal's first argument begins with a functor, those whose head begins with a functor whose number
+ *                 is the same modulo 16, or with a variable. So looking for one station among a thousand facts of one place costs some
+ *                 sixty, and going through them all costs a thousand. Every other step costs 1. A step is taken only if its whole cost is
+ *                 left, so a run may stop with 1 and budget left; a step not taken adds nothing to steps or cost. A match is broken off
+ *                 where its equations pass what is left, so doubled terms do not make a call run on. The cost is not a time: an equation
+ *                 between long terms with many variables can take a millisecond
  *   answer_count  the number of goals at the start of the answer list; the words after them are untouched
  *   pending, parked   the numbers of goals at the start of the store: the pending ones in order, then the parked ones in order of
  *                 parking; the rest of the store, and the scratch, are free

@@ -1,2 +1,5 @@
 pub mod Clauses
-pub mod Steps
+pub mod Groups
+pub mod Rows
+pub mod Index
+pub mod Tried

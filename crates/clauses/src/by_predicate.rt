@@ -1,70 +1,84 @@
-// The index of a deck's clauses by the predicates that they are about.
-ghost use Rattle.std.specs.Prelude.{◌≡◌, ◌<◌, get_or};
-ghost use Rattle.clauses.specs.Clauses.{clause_named, Blank, Indexed};
+// The index of a deck's clauses: by predicate, and by the functor that the first argument of the head starts with.
+ghost use Rattle.std.specs.Prelude.{◌≡◌, ◌+◌, ◌<◌, length};
+ghost use Rattle.rules.specs.Decks.{symbol_words};
+ghost use Rattle.signature.specs.Symbols.{arity_at};
+ghost use Rattle.clauses.specs.Index.{Blank, Indexed, FilledBelow, Places, numbers_at, RowFor};
 
-use crate::predicate;
+use crate::groups::Groups;
+use crate::rows::{self, Row};
 use deck::opened::Opened;
 
-// The first clause about each predicate, and for each clause the next one about its predicate; NONE where there is none. With entries of
-// type `Option<u16>` the smallest run takes 73,000 instructions; with words it takes 47,000; the bar is 48,400.
+// The clauses by predicate, and the rows of each predicate with arguments and over 64 clauses. A predicate's rows begin at half the number
+// of the clauses before its group: they take at most half as many words as it has clauses, so that 4,096 words are enough.
 #[derive(Drop)]
 pub struct Index {
-    first: [u16; 4096],
-    next: [u16; 8192],
-}
-
-// No clause has this number, since a deck has fewer.
-const NONE: u16 = u16::MAX;
-
-// The clause that an entry names.
-fn named(entry: u16) -> Option<usize>
-    ensures { result ≡ clause_named entry }
-{
-    if entry == NONE {
-        None
-    } else {
-        Some(usize::from(entry))
-    }
+    groups: Groups,
+    rows: [u64; 4096],
 }
 
 impl Index {
-    // An index in which no clause is named yet.
+    // An index of no clause.
     pub fn blank() -> Index
         ensures { Blank result }
     {
         Index {
-            first: [NONE; 4096],
-            next: [NONE; 8192],
+            groups: Groups::blank(),
+            rows: [0; 4096],
         }
     }
 
-    // Names the deck's clauses, from the last one to the first.
+    // Puts the deck's clauses into groups and rows.
     pub fn fill(&mut self, deck: &Opened)
         requires { Blank self.old }
         ensures { Indexed deck.now.words.now self.new }
     {
-        let count = deck.clause_count();
-        for i in (0..count).rev() {
-            let p = usize::from(predicate(deck, i));
-            self.next[i] = self.first[p];
-            // `as`, since a deck has fewer than 65,536 clauses: `u16::try_from` has an error that cannot come.
-            self.first[p] = i as u16;
+        self.groups.fill(deck);
+        let symbols = deck.symbols();
+        for p in 0..symbols.len() {
+            if 0 < signature::arity(symbols, p) {
+                self.fill_rows(deck, p);
+            }
         }
     }
 
-    // The first clause about the predicate p.
-    pub fn first_about(&self, p: usize) -> Option<usize>
-        requires { p < 4096 }
-        ensures { result ≡ clause_named (get_or self.now.first p 0) }
+    // The rows of p, if over 64 clauses are about it.
+    fn fill_rows(&mut self, deck: &Opened, p: usize)
+        requires p_in { p < length (symbol_words deck.now.words.now) }
+        requires argued { 0 < arity_at (symbol_words deck.now.words.now) p }
+        requires below { FilledBelow deck.now.words.now p self.old }
+        ensures { FilledBelow deck.now.words.now (p + 1) self.new }
     {
-        named(self.first[p])
+        let numbers = self.groups.about(p);
+        if numbers.len() <= 64 {
+            return;
+        }
+        let from = self.groups.begin(p) / 2;
+        let end = from + rows::words(numbers.len());
+        rows::fill(deck, p, numbers, &mut self.rows[from..end]);
     }
 
-    // The next clause about the predicate of clause i.
-    pub fn next_about(&self, i: usize) -> Option<usize>
-        requires { i < 8192 }
-        ensures { result ≡ clause_named (get_or self.now.next i 0) }
+    // The numbers of the clauses about p.
+    pub fn about(&self, p: usize) -> &[u16]
+        requires { Places self.now p }
+        ensures { result.now ≡ numbers_at self.now p }
     {
-        named(self.next[i])
+        self.groups.about(p)
+    }
+
+    // The row of the clauses that a literal about p tries, whose first argument begins with the symbol `first`; none where it tries all.
+    pub fn row(&self, p: usize, first: Option<u16>) -> Option<Row<'_>>
+        requires { Places self.now p }
+        ensures { RowFor self.now p first result }
+    {
+        let first = first?;
+        let n = self.groups.about(p).len();
+        if n <= 64 {
+            return None;
+        }
+        let from = self.groups.begin(p) / 2;
+        Some(Row {
+            words: &self.rows[from..from + rows::words(n)],
+            number: usize::from(first % 16),
+        })
     }
 }

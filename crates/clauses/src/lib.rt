@@ -1,19 +1,25 @@
 // The clauses of an opened deck: their cells, and which are about one predicate.
 #![tactic(auto)]
 
-ghost use Rattle.std.specs.Prelude.{◌≡◌, ◌<◌, length};
+ghost use Rattle.std.specs.Prelude.{◌≡◌, ◌≤◌, ◌<◌, length, IfSome};
 ghost use Rattle.std.proofs.Props.{props};
+ghost use Rattle.rules.specs.Terms.{Terms};
 ghost use Rattle.rules.specs.Syntax.{Clause, Deck};
 ghost use Rattle.rules.specs.Refusals.{accepted};
 ghost use Rattle.rules.specs.Decks.{write_clause, clause_words, symbol_words, open_deck};
-ghost use Rattle.clauses.specs.Clauses.{ClauseAt, NextAbout, Indexed};
+ghost use Rattle.rules.specs.Resolution.{clauses_about, row_of, tried};
+ghost use Rattle.signature.specs.Symbols.{arity_at};
+ghost use Rattle.clauses.specs.Clauses.{ClauseAt};
+ghost use Rattle.clauses.specs.Index.{Indexed};
 
 use by_predicate::Index;
 use deck::opened::Opened;
-use one_predicate::About;
+use tried::Tried;
 
 pub mod by_predicate;
-pub mod one_predicate;
+mod groups;
+pub mod rows;
+pub mod tried;
 
 // An opened deck, and the index of its clauses.
 #[derive(Clone, Copy)]
@@ -24,6 +30,8 @@ pub struct Clauses<'a> {
 }
 
 impl<'a> Clauses<'a> {
+    ghost use Rattle.clauses.specs.Tried.{row_of_symbol, left, IsRowOf};
+
     // The deck's clauses, by an index that was filled for it.
     pub fn new(deck: Opened<'a>, index: &'a Index) -> Clauses<'a>
         requires { Indexed deck.words.now index.now }
@@ -47,18 +55,23 @@ impl<'a> Clauses<'a> {
         clause_cells(&self.deck, i)
     }
 
-    // The clauses about the predicate p, in deck order.
-    pub fn about(&self, p: usize) -> About<'a>
-        requires { p < 4096 }
+    // The clauses that a literal about p tries, in deck order. Its first argument begins with the symbol `first`; none is a variable, or no argument.
+    pub fn tried(&self, p: usize, first: Option<u16>) -> Tried<'a>
+        requires p_in { p < length (symbol_words self.now.deck.words.now) }
+        requires argued { IfSome first (λ f. 0 < arity_at (symbol_words self.now.deck.words.now) p) }
         ensures clauses { result.clauses ≡ self.now }
         ensures predicate { result.p ≡ p }
-        ensures first { (d : Deck) → open_deck self.now.deck.words.now ≡ accepted d → NextAbout p d.clauses 0 result.ahead }
+        ensures few { length result.numbers.now ≤ 8192 }
+        ensures start { result.next ≡ 0 }
+        ensures row { IsRowOf first result.row }
+        ensures tried { (d : Deck) (ts : Terms) → open_deck self.now.deck.words.now ≡ accepted d → row_of_symbol first ≡ row_of ts → left d result ≡ tried ts (clauses_about p d.clauses) }
     {
-        let ahead = self.index.first_about(p);
-        About {
+        Tried {
             clauses: *self,
             p,
-            ahead,
+            numbers: self.index.about(p),
+            row: self.index.row(p, first),
+            next: 0,
         }
     }
 }

@@ -1,19 +1,20 @@
 -- The derived goals, clause by clause, where they are written, and the equations that their clauses take. Assumes nothing.
-use Prim.Native.Nat.{ℕ, zero, suc, ◌+◌, ◌-◌, ◌≤◌, ◌<◌}
+use Prim.Native.Nat.{ℕ, ◌+◌, ◌≤◌, ◌<◌}
 use mathlib.Core.Path.{◌≡◌, refl, ap, sym, ◌∙◌, subst}
 use mathlib.Core.Logic.{⊎_elim}
 use mathlib.Core.Bool.{Bool, true, false, ◌||◌}
 use mathlib.Core.Option.{Option, none, some}
 use mathlib.Core.List.{List, [], ◌∷◌, ◌++◌, append_assoc, append-nil}
 use native.Mathlib.Omega.{arith}
-use lib.ListN.{length, take, drop, drop_of_length-le, length-drop}
-use lib.Seq.{length-sets, drop-drop, length-take-le}
+use lib.ListN.{length, take}
+use lib.Seq.{length-sets, length-take-le}
 use lib.Dec.{ltb}
-use borrow.Author.Tests.{eq-eqb, ne_eqb, lt-ltb, le-ltb}
+use borrow.Author.Tests.{lt-ltb, le-ltb}
 use Rattle.rules.specs.Terms.{Terms}
 use Rattle.rules.specs.Syntax.{Symbol, Literal, Clause, Deck, Goal, top_goal}
 use Rattle.rules.specs.Goals.{pending, marked, unmarked, goal_words, write_goal, write_goals}
-use Rattle.rules.specs.Resolution.{clauses_about, resolvent, keep_some, collect, resolvents, any_oversized, matchings}
+use Rattle.rules.specs.Resolution.{clauses_about, tried, resolvent, keep_some, collect, resolvents, any_oversized, matchings}
+use Rattle.rules.proofs.IndexLaws.{tried-resolvents}
 use Rattle.rules.proofs.GoalLaws.{goal-length, goals-append, unmarked-append, words_of-append}
 use Rattle.std.proofs.lemmas.List.{length-take}
 use Rattle.words.proofs.StoreLaws.{take-sets-before, take-sets}
@@ -22,47 +23,9 @@ use Rattle.resolvents.specs.Deriving.{Calls, equations_of, IsResolvent}
 use Rattle.resolvents.specs.declared.resolve.Call.{Call}
 use Rattle.resolvents.specs.declared.resolve.Resolved.{Resolved}
 use Rattle.resolvents.specs.declared.resolve.Resolved.TheVariants.{Nothing, Child, Oversized}
-use Rattle.clauses.specs.Clauses.{ClauseAt, place_in, NextAbout}
 use Rattle.derivation.specs.declared.Attempt.{Attempt}
 use Rattle.derivation.specs.Derives.{Tries, sum_of, Fitting, Placed, WritesTo, Writes}
 use Rattle.std.proofs.Common.{Option as Maybe, Some, None}
-
--- The clauses about a predicate: one that is, one that is not, and those up to the next one that is.
-module _ (p : ℕ) where
-  about-here : (c : Clause) (cs : List Clause) → c.predicate ≡ p → clauses_about p (c ∷ cs) ≡ c ∷ clauses_about p cs
-  unfolding clauses_about
-  about-here c cs e = rw (eq-eqb c.predicate p e, clauses_about)
-
-  about-other : (c : Clause) (cs : List Clause) → (c.predicate ≡ p → ⊥) → clauses_about p (c ∷ cs) ≡ clauses_about p cs
-  unfolding clauses_about
-  about-other c cs e = rw (ne_eqb c.predicate p e, clauses_about)
-
-  module _ (cs : List Clause) where
-    pass-one : (i : ℕ) → ((c : Clause) → ClauseAt cs i c → c.predicate ≡ p → ⊥) → clauses_about p (drop i cs) ≡ clauses_about p (drop (i + 1) cs)
-    pass-one i h = go (drop i cs) refl
-      where
-        go : (l : List Clause) → drop i cs ≡ l → clauses_about p (drop i cs) ≡ clauses_about p (drop (i + 1) cs)
-        go [] e =
-            let past : length cs ≤ i = omega (arith, ap length e, length-drop i cs) in
-            rw (e, drop_of_length-le cs {i = i + 1} (omega arith))
-        go (c ∷ l) e =
-            let r : drop (i + 1) cs ≡ l = sym (drop-drop 1 i cs) ∙ ap (drop 1) e in
-            rw (e, r, about-other c l (h c (e ∙ ap (c ∷◌) (sym r))))
-
-    pass-some : (n i : ℕ) → ((k : ℕ) (c : Clause) → i ≤ k → k < i + n → ClauseAt cs k c → c.predicate ≡ p → ⊥)
-        → clauses_about p (drop i cs) ≡ clauses_about p (drop (i + n) cs)
-    pass-some zero i h = let e : i + 0 ≡ i = omega arith in rw e
-    pass-some (suc n) i h =
-        let e : i + 1 + n ≡ i + suc n = omega arith in
-        pass-one i (λ c at. h i c (omega arith) (omega arith) at)
-        ∙ pass-some n (i + 1) (λ k c a l at. h k c (omega arith) (omega arith) at)
-        ∙ ap (λ (m : ℕ). clauses_about p (drop m cs)) e
-
-    about-past : {i : ℕ} {o : Maybe ℕ} → NextAbout p cs i o → clauses_about p (drop i cs) ≡ clauses_about p (drop (place_in cs o) cs)
-    about-past {i} {o} n =
-        let j = place_in cs o in
-        let e : i + (j - i) ≡ j = omega (arith, n.later) in
-        pass-some (j - i) i (λ k c a l at. n.passed k c a (omega (arith, n.later)) at) ∙ ap (λ (m : ℕ). clauses_about p (drop m cs)) e
 
 matchings-none : (N : ℕ) (ts : Terms) → matchings N ts [] ≡ 0
 unfolding matchings
@@ -72,15 +35,15 @@ matchings-one : (N : ℕ) (ts : Terms) (c : Clause) (cs : List Clause) → match
 unfolding matchings
 matchings-one N ts c cs = refl
 
--- With as many variables in the goal as n.
+-- With as many variables in the goal as n, by the clauses that the literal tries.
 pub resolvents-by :
     (clauses : List Clause) (g : Goal) (before : List Literal) (p : ℕ) (ts : Terms) (after : List Literal) (n : ℕ) → n ≡ top_goal g
-    → resolvents clauses g before p ts after ≡ collect (resolvent n g.answers before ts after) (clauses_about p clauses)
-unfolding resolvents
-resolvents-by clauses g before p ts after n e = ap (λ m. collect (resolvent m g.answers before ts after) (clauses_about p clauses)) (sym e)
+    → resolvents clauses g before p ts after ≡ collect (resolvent n g.answers before ts after) (tried ts (clauses_about p clauses))
+resolvents-by clauses g before p ts after n e =
+    tried-resolvents clauses g before p ts after ∙ ap (λ m. collect (resolvent m g.answers before ts after) (tried ts (clauses_about p clauses))) (sym e)
 
-pub sum_by : (d : Deck) (g : Goal) (p : ℕ) (ts : Terms) (n : ℕ) → n ≡ top_goal g → sum_of d g p ts ≡ matchings n ts (clauses_about p d.clauses)
-sum_by d g p ts n e = ap (λ m. matchings m ts (clauses_about p d.clauses)) (sym e)
+pub sum_by : (d : Deck) (g : Goal) (p : ℕ) (ts : Terms) (n : ℕ) → n ≡ top_goal g → sum_of d g p ts ≡ matchings n ts (tried ts (clauses_about p d.clauses))
+sum_by d g p ts n e = ap (λ m. matchings m ts (tried ts (clauses_about p d.clauses))) (sym e)
 
 -- The cells after the goal's may change.
 pub kept-inside : (cells cells₀ : List ℕ) (size : ℕ) → take size cells ≡ take size cells₀ → size ≤ length cells₀ → size ≤ length cells
@@ -165,23 +128,23 @@ module _ (store child store' : List ℕ) (end' : Maybe ℕ) where
   placed-few o (Some e₀) Oversized most h k b e q = cc
 
 -- After some clauses: the goals that they gave, and that they are in the store from base on as far as there is room, unless one is
--- oversized; and what is left after their equations. The next clause about the predicate is `ahead`. `all` is what all clauses give, and
--- `sum` the equations that they take.
-pub record Going (by : Clause → Option Goal) (N : ℕ) (ts : Terms) (p : ℕ) (cs : List Clause) (all : List Goal) (sum : ℕ) (store₀ : List ℕ) (base left : ℕ) (store : List ℕ) (end : Maybe ℕ) (rest i : ℕ) : Type 0 where
+-- oversized; and what is left after their equations. The clauses `todo` are still to be tried. `all` is what all clauses give, and `sum`
+-- the equations that they take.
+pub record Going (by : Clause → Option Goal) (N : ℕ) (ts : Terms) (all : List Goal) (sum : ℕ) (store₀ : List ℕ) (base left : ℕ) (store : List ℕ) (end : Maybe ℕ) (rest : ℕ) (todo : List Clause) : Type 0 where
   pub given : List Goal
-  pub whole : all ≡ given ++ collect by (clauses_about p (drop i cs))
+  pub whole : all ≡ given ++ collect by todo
   pub kept : take base store ≡ take base store₀
   pub low : (e : ℕ) → end ≡ Some e → base ≤ e
   pub reached : WritesTo store₀ base given store end
-  pub paid : rest + sum ≡ left + matchings N ts (clauses_about p (drop i cs))
+  pub paid : rest + sum ≡ left + matchings N ts todo
 
-module _ (by : Clause → Option Goal) (N : ℕ) (ts : Terms) (p : ℕ) (cs : List Clause) (all : List Goal) (sum : ℕ) (store₀ : List ℕ) (base left : ℕ) where
-  abbrev pub Reaching : List ℕ → Maybe ℕ → ℕ → ℕ → Type 0
-  Reaching store end rest i = Going by N ts p cs all sum store₀ base left store end rest i
+module _ (by : Clause → Option Goal) (N : ℕ) (ts : Terms) (all : List Goal) (sum : ℕ) (store₀ : List ℕ) (base left : ℕ) where
+  abbrev pub Reaching : List ℕ → Maybe ℕ → ℕ → List Clause → Type 0
+  Reaching store end rest todo = Going by N ts all sum store₀ base left store end rest todo
 
-  pub going-first : all ≡ collect by (clauses_about p cs) → sum ≡ matchings N ts (clauses_about p cs) → Reaching store₀ (Some base) left 0
+  pub going-first : (todo : List Clause) → all ≡ collect by todo → sum ≡ matchings N ts todo → Reaching store₀ (Some base) left todo
   unfolding any_oversized write_goals
-  going-first e q =
+  going-first todo e q =
       record {
         given = [];
         whole = e;
@@ -191,50 +154,35 @@ module _ (by : Clause → Option Goal) (N : ℕ) (ts : Terms) (p : ℕ) (cs : Li
         paid = ap (left +◌) q;
       }
 
-  pub going-past : {store : List ℕ} {end : Maybe ℕ} {rest i : ℕ} {o : Maybe ℕ} → NextAbout p cs i o → Reaching store end rest i → Reaching store end rest (place_in cs o)
-  going-past n r =
-      record {
-        given = r.given;
-        whole = r.whole ∙ ap (λ l. r.given ++ collect by l) (about-past p cs n);
-        kept = r.kept;
-        low = r.low;
-        reached = r.reached;
-        paid = r.paid ∙ ap (λ l. left + matchings N ts l) (about-past p cs n);
-      }
-
   -- No clause is left.
-  pub going-last : {store : List ℕ} {end : Maybe ℕ} {rest : ℕ} → Reaching store end rest (length cs) → Writes store₀ base all sum left store (Some (record { held = end; left = rest }))
-  unfolding clauses_about collect
+  pub going-last : {store : List ℕ} {end : Maybe ℕ} {rest : ℕ} → Reaching store end rest [] → Writes store₀ base all sum left store (Some (record { held = end; left = rest }))
+  unfolding collect
   going-last {store} {end} {rest} r =
-      let none-after : clauses_about p (drop (length cs) cs) ≡ [] = rw (drop_of_length-le cs {i = length cs} (omega arith), clauses_about) in
-      let all-given : all ≡ r.given = r.whole ∙ rw none-after (append-nil r.given) in
-      rw all-given (r.reached, r.kept, omega (arith, r.paid, ap (matchings N ts) none-after, matchings-none N ts))
+      let all-given : all ≡ r.given = r.whole ∙ append-nil r.given in
+      rw all-given (r.reached, r.kept, omega (arith, r.paid, matchings-none N ts))
 
-  -- Clause i, which is about the predicate.
-  module _ {store : List ℕ} {end : Maybe ℕ} {rest i : ℕ} (c : Clause) (place : drop i cs ≡ c ∷ drop (i + 1) cs) (about : c.predicate ≡ p) (r : Reaching store end rest i) where
-    next-about : clauses_about p (drop i cs) ≡ c ∷ clauses_about p (drop (i + 1) cs)
-    next-about = ap (clauses_about p) place ∙ about-here p c (drop (i + 1) cs) about
-
-    next-whole : all ≡ r.given ++ keep_some (by c) (collect by (clauses_about p (drop (i + 1) cs)))
+  -- One more clause.
+  module _ {store : List ℕ} {end : Maybe ℕ} {rest : ℕ} {todo : List Clause} (c : Clause) (later : List Clause) (first : todo ≡ c ∷ later) (r : Reaching store end rest todo) where
+    next-whole : all ≡ r.given ++ keep_some (by c) (collect by later)
     unfolding collect
-    next-whole = r.whole ∙ ap (λ l. r.given ++ collect by l) next-about
+    next-whole = r.whole ∙ ap (λ l. r.given ++ collect by l) first
 
-    next-paid : rest + sum ≡ left + (equations_of N ts c + matchings N ts (clauses_about p (drop (i + 1) cs)))
-    next-paid = r.paid ∙ ap (left +◌) (ap (matchings N ts) next-about ∙ matchings-one N ts c (clauses_about p (drop (i + 1) cs)))
+    next-paid : rest + sum ≡ left + (equations_of N ts c + matchings N ts later)
+    next-paid = r.paid ∙ ap (left +◌) (ap (matchings N ts) first ∙ matchings-one N ts c later)
 
     pub going-unpaid : rest < equations_of N ts c → Writes store₀ base all sum left store None
     going-unpaid h = (omega (arith, next-paid), r.kept)
 
     pub going_on : (child : List ℕ) (answer : Resolved) (l : ℕ) → equations_of N ts c + l ≡ rest → IsResolvent (by c) child answer → length store ≡ length store₀
-        → (store' : List ℕ) (end' : Maybe ℕ) → Placed store end child answer store' end' → Reaching store' end' l (i + 1)
+        → (store' : List ℕ) (end' : Maybe ℕ) → Placed store end child answer store' end' → Reaching store' end' l later
     unfolding keep_some
     going_on child answer l q h long store' end' k = go (by c) answer h next-whole end r.low r.reached k
       where
-        paid' : l + sum ≡ left + matchings N ts (clauses_about p (drop (i + 1) cs))
+        paid' : l + sum ≡ left + matchings N ts later
         paid' = omega (arith, next-paid, q)
 
-        go : (o : Option Goal) (answer : Resolved) → IsResolvent o child answer → all ≡ r.given ++ keep_some o (collect by (clauses_about p (drop (i + 1) cs)))
-            → (end : Maybe ℕ) → ((e : ℕ) → end ≡ Some e → base ≤ e) → WritesTo store₀ base r.given store end → Placed store end child answer store' end' → Reaching store' end' l (i + 1)
+        go : (o : Option Goal) (answer : Resolved) → IsResolvent o child answer → all ≡ r.given ++ keep_some o (collect by later)
+            → (end : Maybe ℕ) → ((e : ℕ) → end ≡ Some e → base ≤ e) → WritesTo store₀ base r.given store end → Placed store end child answer store' end' → Reaching store' end' l later
         go none Nothing h e None b w k = rw (k.0, k.1) record { given = r.given; whole = e; kept = r.kept; low = λ n z. cc; reached = w; paid = paid' }
         go none Nothing h e (Some at) b w k = rw (k.0, k.1) record { given = r.given; whole = e; kept = r.kept; low = b; reached = w; paid = paid' }
         go none (Child n) h e end b w k = elim h [ ]

@@ -1,3 +1,4 @@
 pub mod LiteralLaws
 pub mod ChildrenLaws
 pub mod DerivingLaws
+pub mod CostLaws

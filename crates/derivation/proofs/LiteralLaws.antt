@@ -1,21 +1,22 @@
 -- The selected literal in a goal's cells. Assumes nothing.
 use Prim.Native.Nat.{ℕ, ◌<◌}
-use mathlib.Core.Path.{◌≡◌, ap, sym, ◌∙◌, subst}
+use mathlib.Core.Path.{◌≡◌, refl, ap, sym, ◌∙◌, subst}
 use mathlib.Core.List.{List, [], ◌∷◌, ◌++◌, append_assoc}
 use native.Mathlib.Omega.{arith}
 use lib.ListN.{length, get_or, take, length-append}
 use lib.Seq.{length-take-le, get_or-take, get_or_at}
-use Rattle.rules.specs.Terms.{Terms}
+use Rattle.rules.specs.Terms.{Terms, nil, cons, var, app, count}
 use Rattle.rules.specs.Syntax.{Symbol, Literal, pos, Goal}
-use Rattle.rules.specs.Cells.{write_terms, write_literals}
+use Rattle.rules.specs.Cells.{positive, read_cell, write_terms, write_literals}
+use Rattle.rules.specs.Resolution.{row_of}
 use Rattle.rules.specs.Goals.{goal_cells}
 use Rattle.rules.proofs.CellLaws.{terms-length, literals-length, write-append, write_literals-append}
-use Rattle.resolvents.specs.Deriving.{Calls}
+use Rattle.resolvents.specs.Deriving.{Calls, leading_symbol}
+use Rattle.clauses.specs.Tried.{row_of_symbol}
 use Rattle.resolvents.specs.declared.resolve.Call.{Call}
 use Rattle.rules.specs.WellFormed.{WfLiteral, WfLiterals}
 use Rattle.rules.proofs.ListLaws.{all_split}
 use Rattle.rules.proofs.CellLaws.{positive-below}
-use Rattle.rules.proofs.DeckLaws.{opened-written}
 use Rattle.rules.specs.Syntax.{Deck}
 use Rattle.derivation.specs.declared.Attempt.{Attempt}
 use Rattle.derivation.specs.Derives.{Tries}
@@ -37,11 +38,22 @@ literal-cell {cells = cells} {call = call} {g = g} {before = before} {p = p} {ts
     let h : s < size = omega (arith, ap length whole, length-take-le size cells r.inside, length-append front (p ∷ rest)) in
     (h, sym (get_or-take size cells s 0 h) ∙ ap (λ (l : List ℕ). get_or l s 0) whole ∙ get_or_at front p rest 0 s long)
 
--- It is one of the deck's symbols.
+-- It is a predicate with as many arguments as the literal has, and so one of the deck's symbols.
+pub literal-read :
+    {ws cells : List ℕ} {a : Attempt} {d : Deck} {g : Goal} {before : List Literal} {p : ℕ} {ts : Terms} {after : List Literal}
+    → Tries ws cells a d g before p ts after → read_cell d.symbols p ≡ positive p (count ts)
+literal-read {d = d} {before = before} {p} {ts} {after} t =
+    let w = subst (WfLiterals d.symbols) t.calls.literals t.calls.goal.well_formed.literals in
+    (all_split (WfLiteral d.symbols) before (pos p ts ∷ after) w).1.0.0
+
 pub literal-below :
     {ws cells : List ℕ} {a : Attempt} {d : Deck} {g : Goal} {before : List Literal} {p : ℕ} {ts : Terms} {after : List Literal}
-    → Tries ws cells a d g before p ts after → p < 4096
-literal-below {ws} {d = d} {before = before} {p} {ts} {after} t =
-    let w = subst (WfLiterals d.symbols) t.calls.literals t.calls.goal.well_formed.literals in
-    let l = (all_split (WfLiteral d.symbols) before (pos p ts ∷ after) w).1.0.0 in
-    omega (arith, positive-below d.symbols p _ l, (opened-written ws d t.opens).1.few_symbols)
+    → Tries ws cells a d g before p ts after → p < length d.symbols
+literal-below {d = d} {p = p} t = positive-below d.symbols p _ (literal-read t)
+
+-- The row of the terms is that of the symbol that they begin with.
+pub row-leads : (ts : Terms) → row_of_symbol (leading_symbol ts) ≡ row_of ts
+unfolding row_of
+row-leads nil = refl
+row-leads (cons (var v) ts) = refl
+row-leads (cons (app f us) ts) = refl

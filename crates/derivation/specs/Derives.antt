@@ -6,12 +6,15 @@ use Rattle.rules.specs.Syntax.{Symbol, Literal, Clause, Deck, Goal, top_goal}
 use Rattle.rules.specs.Refusals.{accepted}
 use Rattle.rules.specs.Decks.{open_deck, symbol_words}
 use Rattle.rules.specs.Goals.{unmarked, goal_words, words_of, write_goals}
-use Rattle.rules.specs.Resolution.{positive, clauses_about, resolvent, resolvents, any_oversized, matchings, selected_cost}
+use Rattle.rules.specs.Resolution.{positive, clauses_about, resolvent, resolvents, any_oversized, tried, matchings, selected_cost}
 use Rattle.resolvents.specs.Deriving.{Calls, leading_symbol, equations_of, IsAttempt}
 use Rattle.resolvents.specs.declared.resolve.Resolved as resolved
 use Rattle.resolvents.specs.declared.resolve.Resolved.TheVariants as gives
 use Rattle.goals.specs.Store.{Holding}
 use Rattle.clauses.specs.Clauses.{ClauseAt}
+use Rattle.clauses.specs.Tried.{left}
+use Rattle.clauses.specs.declared.rows.Row.{Row}
+use Rattle.clauses.specs.declared.tried.Tried.{Tried}
 use Rattle.report.specs.declared.Stop.{Stop}
 use Rattle.report.specs.declared.Stop.TheVariants as stops
 use Rattle.derivation.specs.declared.Attempt.{Attempt}
@@ -47,9 +50,15 @@ AttemptsClause deck_words cells a i left child r =
     → Tries deck_words cells a d g before p ts after → ClauseAt d.clauses i c
     → IsAttempt (resolvent a.n g.answers before ts after c) (equations_of a.n ts c) left child r
 
--- The equations that the clauses about the literal's predicate take.
+-- The equations that the clauses take that the literal tries.
 abbrev pub sum_of : Deck → Goal → ℕ → Terms → ℕ
-sum_of d g p ts = matchings (top_goal g) ts (clauses_about p d.clauses)
+sum_of d g p ts = matchings (top_goal g) ts (tried ts (clauses_about p d.clauses))
+
+-- The literal's row has more clauses than what is left.
+pub record OverRow (t : Tried) (budget : ℕ) : Type 0 where
+  pub row : Row
+  pub is : t.row ≡ Some row
+  pub over : (d : Deck) → open_deck t.clauses.deck.words.now ≡ accepted d → budget < length (left d t)
 
 -- What a clause gives has at most 1,024 words, and its end is a place.
 abbrev pub Fitting : resolved.Resolved → Option ℕ → Type 0

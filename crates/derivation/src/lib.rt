@@ -2,13 +2,14 @@
 // both behind one `&mut` each contract would have to say that the clauses are the same after.
 #![tactic(auto)]
 
-ghost use Rattle.std.specs.Prelude.{◌≡◌, ℕ, ◌≤◌, ◌<◌, List, length, take};
+ghost use Rattle.std.specs.Prelude.{◌≡◌, ℕ, ◌≤◌, ◌<◌, true, false, List, length, take};
 ghost use Rattle.std.proofs.Math.Option.{none};
 ghost use Rattle.rules.specs.Decks.{clause_words};
 ghost use Rattle.resolvents.specs.Deriving.{IsAttempt};
-ghost use Rattle.derivation.specs.Derives.{SomeTries, AboutCall, AttemptsClause, Fitting, Placed, WritesChildren, SomeDeriving, DerivesCall};
+ghost use Rattle.derivation.specs.Derives.{SomeTries, AboutCall, OverRow, AttemptsClause, Fitting, Placed, WritesChildren, SomeDeriving, DerivesCall};
 
 use clauses::Clauses;
+use clauses::tried::Tried;
 use goals::restore;
 use report::Stop;
 use resolvents::fresh::variables;
@@ -68,8 +69,8 @@ pub fn derive(
     Ok(derived)
 }
 
-// Writes the derived goals in deck order from base on, as far as there is room: where they end, or would end. Every clause about the
-// predicate is tried, also where a goal is oversized, unless the equations are more than what is left.
+// Writes the derived goals in deck order from base on, as far as there is room: where they end, or would end. Every clause that the index
+// gives is tried, also where a goal is oversized, unless the equations are more than what is left.
 fn put_children(
     clauses: &Clauses<'_>,
     store: &mut [u16],
@@ -83,14 +84,31 @@ fn put_children(
     ensures writes { WritesChildren clauses.now.deck.words.now work.old.cells.now attempt store.old base left store.new result }
     ensures cells_unchanged { take attempt.call.len work.new.cells.now ≡ take attempt.call.len work.old.cells.now }
 {
+    let p = usize::from(work.cells[attempt.call.s]);
+    let candidates = clauses.tried(p, attempt.first);
+    if are_over(&candidates, left) {
+        return None;
+    }
     let mut held = Some(base);
     let mut rest = left;
-    for i in clauses.about(usize::from(work.cells[attempt.call.s])) {
+    for i in candidates {
         let (given, l) = try_clause(clauses, i, attempt, rest, work)?;
         held = put_child(store, &work.draft.child, given, held);
         rest = l;
     }
     Some(Derived { held, left: rest })
+}
+
+// Whether a row has more clauses than equations are left. Each of its clauses takes one at least, so that none needs to be tried.
+fn are_over(candidates: &Tried<'_>, left: u32) -> bool
+    requires { candidates.now.next ≡ 0 }
+    ensures over { result ≡ true → OverRow candidates.now left }
+    ensures within { result ≡ false → OverRow candidates.now left → ⊥ }
+{
+    match candidates.candidates() {
+        Some(n) => (left as usize) < n,
+        None => false,
+    }
 }
 
 // Puts what a clause gives behind the goals so far, if there is room for it: the place after it, or none once a goal is oversized.

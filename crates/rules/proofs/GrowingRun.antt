@@ -14,7 +14,7 @@ use Rattle.rules.specs.Refusals.{accepted}
 use Rattle.rules.specs.All.{rules}
 use Rattle.rules.specs.Goals.{oversized, marked, goal_cells, goal_words}
 use Rattle.rules.specs.Unification.{done, bind, solved, unify_front, unify_step, unify_round, unify_within, unify}
-use Rattle.rules.specs.Resolution.{select, clauses_about, fresh, resolved, resolvent, keep_some, collect, resolvents, any_oversized, matchings, selected_cost, cost_of}
+use Rattle.rules.specs.Resolution.{select, clauses_about, fresh, resolved, resolvent, keep_some, collect, resolvents, any_oversized, has_rows, tried_by, tried, matchings, selected_cost, cost_of}
 use Rattle.rules.specs.Evaluation.{finished, stopped, Level, with_pending, with_parked, held, zeroth, derive_act, selected_act, literals_act, act_of, derive, park, step, act_step, unless_over, check_store, Account, first_cost, ended, next_from, next_of, evaluate_level, stop_of, outcome, evaluate}
 use Rattle.rules.proofs.NumberingLaws.{renumber-same}
 use Rattle.rules.proofs.LevelLaws.{level-steps, level-empty}
@@ -66,7 +66,7 @@ unfolding unify unify_within unify_round unify_step unify_front ℕ_discrete
 matches n = rw (no-tops n, no-occs 0 n)
 
 cost : (n : ℕ) → cost_of clauses (goal_at n) ≡ 2
-unfolding cost_of selected_cost select clauses_about matchings
+unfolding cost_of selected_cost select clauses_about tried has_rows tried_by matchings
 cost n = rw (no-tops n, matches n)
 
 derives : (n : ℕ) → resolvents clauses (goal_at n) [] 2 (cons (term_at n) nil) [] ≡ goal_at (suc n) ∷ []

@@ -3,6 +3,7 @@ pub mod Cases
 pub mod Table
 pub mod MoreRuns
 pub mod CostRuns
+pub mod IndexTable
 -- Lists and terms.
 pub mod ListLaws
 pub mod TermLaws
@@ -19,6 +20,7 @@ pub mod DrillLaws
 -- Unification, selection, and the evaluation's equations.
 pub mod UnifyLaws
 pub mod SelectLaws
+pub mod IndexLaws
 pub mod NextLaws
 pub mod LevelLaws
 pub mod EndLaws

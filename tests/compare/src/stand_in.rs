@@ -5,6 +5,7 @@ use second::carry::{slips, Given};
 use second::cost::slips::SLIPS as PAYING;
 use second::drill::judge as drills;
 use second::drill::slips::SLIPS as DRILLING;
+use second::index::slips::SLIPS as TRYING;
 use second::judge::{Engine as Runs, Lent, Report};
 use second::loose::slips as loose;
 use second::text::judge::{Engine, Second};
@@ -19,7 +20,7 @@ static ENGINE: LazyLock<&dyn Engine> = LazyLock::new(|| match SLIPS.iter().find(
 
 static CONTINUES: LazyLock<&dyn Continues> = LazyLock::new(|| match slips::SLIPS.iter().find(|slip| named(slip.name)) {
     Some(slip) => slip,
-    None => match PAYING.iter().find(|slip| named(slip.name)) {
+    None => match PAYING.iter().chain(&TRYING).find(|slip| named(slip.name)) {
         Some(slip) => slip,
         None => &second::judge::Second,
     },
@@ -27,7 +28,7 @@ static CONTINUES: LazyLock<&dyn Continues> = LazyLock::new(|| match slips::SLIPS
 
 static RUNS: LazyLock<&(dyn Runs + Sync)> = LazyLock::new(|| match loose::SLIPS.iter().find(|slip| named(slip.name)) {
     Some(slip) => slip,
-    None => match PAYING.iter().find(|slip| named(slip.name)) {
+    None => match PAYING.iter().chain(&TRYING).find(|slip| named(slip.name)) {
         Some(slip) => slip,
         None => &second::judge::Second,
     },
@@ -43,7 +44,7 @@ fn named(name: &str) -> bool {
     std::env::var("SLIP").is_ok_and(|wanted| {
         let texts = SLIPS.iter().map(|slip| slip.name);
         let runs = loose::SLIPS.iter().map(|slip| slip.name);
-        let paying = PAYING.iter().map(|slip| slip.name);
+        let paying = PAYING.iter().chain(&TRYING).map(|slip| slip.name);
         let drilling = DRILLING.iter().map(|slip| slip.name);
         let mut all = texts.chain(slips::SLIPS.iter().map(|slip| slip.name)).chain(runs).chain(paying).chain(drilling);
         assert!(all.any(|one| one == wanted), "no slip of this name");

@@ -20,6 +20,7 @@ pub fn all() -> Vec<Case> {
         refusals::loose(),
         answers::deck_l(),
         answers::terms(),
+        answers::long_lists(),
         answers::several(),
         stops::finished_open(),
         stops::levels(),

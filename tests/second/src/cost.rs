@@ -4,10 +4,12 @@ pub mod slips;
 
 use crate::goals::{Matched, Resolvent};
 
-/// A slip in counting equations or in paying for steps. The evaluation has none.
+/// A slip in counting equations, in paying for steps, or in the choice of clauses. The evaluation has none.
 #[derive(Clone, Copy, Debug, PartialEq, Eq)]
 pub enum Slip {
     None,
+    /// In the choice of the clauses that are tried.
+    Tried(crate::index::Slip),
     /// The failing equation is not counted.
     FailingFree,
     /// A variable and itself are not counted.

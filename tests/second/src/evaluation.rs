@@ -1,9 +1,11 @@
 //! The evaluation with negation as failure, as a stack of levels.
 
 use crate::cost::{Slip, Tally};
-use crate::deck::Deck;
+use crate::deck::{Clause, Deck};
 use crate::goals::{Goal, Mark, Matched, MOST_GOAL_WORDS};
+use crate::index;
 use crate::query::Query;
+use crate::terms::Applied;
 use std::cell::Cell;
 
 #[derive(Clone, Copy, Debug, PartialEq, Eq)]
@@ -51,8 +53,11 @@ pub struct Watch {
     pub parked_deeper: [u32; 5],
     /// Inner levels closed: succeeded, finished clean, finished with parked.
     pub closed: [u32; 3],
-    /// Clauses tried: those about the selected literal's predicate, over all steps.
+    /// Clauses tried, over all steps.
     pub tried: Cell<u64>,
+    /// Steps that tried a row, and of those the ones with no clause to try.
+    pub rows: Cell<u64>,
+    pub empty_rows: Cell<u64>,
     /// What each step cost.
     pub costs: Vec<u64>,
     /// A step could not be paid: what was left for it.
@@ -274,15 +279,13 @@ impl Evaluation<'_> {
         (cost <= left).then_some((plan, cost))
     }
 
-    /// All resolvents of the selected literal; one too long parks the goal. Every clause about the predicate is counted.
+    /// All resolvents of the selected literal; one too long parks the goal. Every clause tried is counted.
     fn resolve(&self, goal: &Goal, at: usize, left: u64) -> Option<Priced> {
         let room = self.limits.store_words + goal.words - self.held;
-        let predicate = goal.literals[at].atom.symbol as usize;
         let mut derived = Vec::new();
         let (mut words, mut oversized) = (0, false);
         let mut tally = Tally::new(left, self.slip)?;
-        for number in &self.deck.about[predicate] {
-            let clause = &self.deck.clauses[*number];
+        for clause in self.tried(&goal.literals[at].atom) {
             self.watch.tried.set(self.watch.tried.get() + 1);
             self.watch.unpaid.set(oversized);
             let matched = Matched::new(goal, at, clause, tally.most(), self.slip);
@@ -305,6 +308,20 @@ impl Evaluation<'_> {
             false => Plan::Replace { derived, words },
         };
         (tally.cost() <= left).then_some((plan, tally.cost()))
+    }
+
+    /// The clauses that the selected literal tries.
+    fn tried(&self, atom: &Applied) -> Vec<&Clause> {
+        let clauses = match self.slip {
+            Slip::Tried(slip) => index::slips::tried(self.deck, atom, slip),
+            _ => index::tried(self.deck, atom),
+        };
+        if clauses.len() < self.deck.about[atom.symbol as usize].len() {
+            self.watch.rows.set(self.watch.rows.get() + 1);
+            let empty = self.watch.empty_rows.get() + clauses.is_empty() as u64;
+            self.watch.empty_rows.set(empty);
+        }
+        clauses
     }
 
     fn answer_fits(&self) -> bool {

@@ -11,6 +11,7 @@ pub mod drill;
 pub mod evaluation;
 pub mod goals;
 mod guarded;
+pub mod index;
 pub mod judge;
 pub mod listing;
 pub mod loose;

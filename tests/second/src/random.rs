@@ -6,6 +6,7 @@ pub(crate) mod dice;
 mod families;
 mod limits;
 mod programs;
+mod rows;
 mod signature;
 pub(crate) mod sizes;
 mod stress;
@@ -48,7 +49,7 @@ const fn exact(name: &'static str, weight: usize, make: fn(&mut Dice) -> World) 
     }
 }
 
-const FAMILIES: [Family; 18] = [
+const FAMILIES: [Family; 20] = [
     family("mixed", 24, families::mixed),
     family("graph", 14, families::graph),
     family("lists", 10, programs::lists),
@@ -64,6 +65,8 @@ const FAMILIES: [Family; 18] = [
     exact("twins", 2, stress::twins),
     exact("vast", 2, stress::vast),
     exact("many", 2, limits::many_variables),
+    exact("rows", 6, rows::rows),
+    exact("full", 1, rows::full),
     family("wide", 3, limits::wide),
     Family {
         most_cost: 60_000,
@@ -97,6 +100,16 @@ pub fn case(seed: u64) -> Case {
     let mut dice = Dice::new(seed);
     let weights: Vec<usize> = FAMILIES.iter().map(|family| family.weight).collect();
     let family = &FAMILIES[dice.weighted(&weights)];
+    made(seed, dice, family)
+}
+
+/// A case of one family of worlds.
+pub fn case_of(name: &str, seed: u64) -> Case {
+    let named = FAMILIES.iter().find(|family| family.name == name);
+    made(seed, Dice::new(seed), named.expect("a family of this name"))
+}
+
+fn made(seed: u64, mut dice: Dice, family: &Family) -> Case {
     let mut world = (family.make)(&mut dice);
     let settled = settle(&mut dice, &mut world, family.ways);
     let mut case = sizes::sized(&mut dice, &world, family.most_cost);

@@ -81,10 +81,10 @@ fn note(case: &Case, outcome: &Outcome, reached: &mut BTreeSet<&'static str>) {
     reached.extend(labels.iter().filter(|(so, _)| *so).map(|(_, label)| label));
 }
 
-/// p(c0), .. p(c39) and on again from p(c0), p the symbol 40.
+/// p(c0), .. p(c39) and on again from p(c0), p the symbol 40. From 65 facts on those with the numbers 0, 16 and 32 are tried.
 #[test]
 fn facts_are_matched_one_by_one() {
-    for facts in [1u16, 2, 40, 64, 65, 1_000] {
+    for (facts, tried) in [(1u16, 1), (2, 2), (40, 40), (64, 64), (65, 5), (1_000, 75)] {
         let clauses = (0..facts).map(|at| vec![40, at % 40]).collect();
         let symbols = [vec![0; 40], vec![257]].concat();
         let world = World {
@@ -98,7 +98,7 @@ fn facts_are_matched_one_by_one() {
         let found = facts.div_ceil(40) as u32;
         assert_eq!(
             (outcome.steps, outcome.cost),
-            (1 + found, 1 + facts as u32 + found)
+            (1 + found, 1 + tried + found)
         );
     }
 }

@@ -1,9 +1,8 @@
 //! The comparison finds slips in counting equations and in paying for steps, in fresh runs and in continued ones.
 
 use second::carry::comparison::Comparison;
-use second::carry::{self, Given};
-use second::cost::slips::{Slipping, AT_LARGE, SLIPS};
-use second::judge::{judge, Engine, Lent, Report, Second};
+use second::cost::slips::{Continued, Slipping, AT_LARGE, SLIPS};
+use second::judge::judge;
 use second::random::case;
 use second::{Case, Stop};
 
@@ -29,43 +28,6 @@ fn slips_are_found() {
         }
     }
     panic!("not found: {:?}", names(&left));
-}
-
-/// Slips when it carries on, and not when it runs.
-struct Continued<'a>(&'a Slipping);
-
-impl Engine for Continued<'_> {
-    fn open(&self, deck: &[u16]) -> u32 {
-        second::open(deck)
-    }
-
-    fn check(&self, deck: &[u16], query: &[u16]) -> u32 {
-        second::check(deck, query)
-    }
-
-    fn run(
-        &self,
-        deck: &[u16],
-        query: &[u16],
-        budget: u32,
-        lent: Lent<'_>,
-        report: &mut Report,
-    ) -> u32 {
-        Second.run(deck, query, budget, lent, report)
-    }
-}
-
-impl carry::judge::Engine for Continued<'_> {
-    fn carry_on(
-        &self,
-        deck: &[u16],
-        given: Given,
-        budget: u32,
-        lent: Lent<'_>,
-        report: &mut Report,
-    ) -> u32 {
-        self.0.carry_on(deck, given, budget, lent, report)
-    }
 }
 
 #[test]

@@ -108,6 +108,6 @@ fn failures_shrink() {
     assert!(fails(&small));
     assert!(small.deck.len() <= 24, "{small:?}");
     assert!(small.query.len() <= 2, "{small:?}");
-    // The longest way to a parked goal in so few words is a circle of "nots": 33 of them, and 32 steps of an equation each.
-    assert!(small.budget <= 97, "{small:?}");
+    // The longest way to a parked goal in so few words is a circle of "nots": 33 of them, and 33 steps of an equation each.
+    assert!(small.budget <= 99, "{small:?}");
 }

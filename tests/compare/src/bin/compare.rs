@@ -75,6 +75,7 @@ fn deepest() {
     }
     doubled();
     vast();
+    rows();
 }
 
 /// p(x1, .., xn) against p(f(y1, y1), .., f(yn, yn)) if t(y1), .., t(yn), and with each x tied to the next.
@@ -108,6 +109,21 @@ fn vast() {
             assert!(time < MOST_TIME, "{times} doublings with a budget of {budget} took {time:.1?}");
             hold(&case);
         }
+    }
+}
+
+/// node(x), p(x) over 40 nodes: each of them is looked up among so many clauses about p, one of which begins with a variable.
+fn rows() {
+    let (p, node, x) = (40, 41, 32768);
+    let edges = [255, 256, 257, 319, 320, 321, 1_000, 2_000, 5_000];
+    for count in (1..=200).chain(edges) {
+        let mut clauses: Vec<Vec<u16>> = (0..count).map(|at| vec![p, at * 7 % 40]).collect();
+        clauses[count as usize / 2] = vec![p, x, node, x];
+        clauses.extend((0..40).map(|name| vec![node, name]));
+        let world = World { symbols: [vec![0; 40], vec![257, 257]].concat(), clauses, query: Vec::new() };
+        let deck = world.deck();
+        hold(&roomy("rows", &deck, vec![node, x, p, x]));
+        hold(&roomy("all clauses", &deck, vec![p, x, node, x]));
     }
 }
 

@@ -40,6 +40,21 @@ pub fn terms() -> Vec<Case> {
     ]
 }
 
+/// Facts about p over forty constants, from the first on and again from the first. Over 64 of them have rows.
+pub fn long_lists() -> Vec<Case> {
+    let long = |count: u16| {
+        let facts: Vec<[u16; 2]> = (0..count).map(|at| [40, at % 40]).collect();
+        let facts: Vec<&[u16]> = facts.iter().map(|fact| &fact[..]).collect();
+        deck(&[vec![0; 40], vec![257]].concat(), &facts)
+    };
+    vec![
+        case("64 facts", &long(64), &[40, 0], "all\nfinished 3 2 0 0 67\ntrue\n"),
+        case("65 facts", &long(65), &[40, 0], "all\nfinished 3 2 0 0 8\ntrue\n"),
+        case("65 facts, all asked for", &long(65), &[40, X], "all\nfinished 66 65 0 0 131\ns0\ns1\n"),
+        case("65 facts, not the last name", &long(65), &[NOT + 40, 39], "no\nfinished 3 0 0 0 8\n"),
+    ]
+}
+
 /// f/15, a, b; p(f(a, b, a, b, .., a)).
 fn fifteen_arguments() -> Case {
     let arguments = (0..15u16).map(|at| 1 + at % 2);

@@ -51,7 +51,12 @@ impl Census {
         let family = case.name.split('-').next().unwrap_or_default();
         self.count(format!("family {family}"));
         match result {
-            Err(number) => self.count(format!("refused {number}")),
+            Err(number) => {
+                self.count(format!("refused {number}"));
+                if family == "rows" {
+                    self.count(format!("rows: refused {number}"));
+                }
+            }
             Ok(outcome) => self.add_run(case, &outcome),
         }
     }
@@ -73,6 +78,12 @@ impl Census {
         }
         if outcome.answer_list().len() > 65_535 {
             self.count("answers over 65,535 words".into());
+        }
+        if outcome.watch.rows.get() > 0 {
+            self.count(format!("rows: stop {:?}", outcome.stop));
+        }
+        if outcome.watch.empty_rows.get() > 0 {
+            self.count("rows: no clause to try".into());
         }
         if case.name.ends_with("damaged") {
             self.count("ran though damaged".into());

@@ -3,6 +3,7 @@
 use super::{carry_on, CarryCase, Fault, Given, Refused};
 use crate::evaluation::{Outcome, Stop};
 use crate::guarded::Guarded;
+use crate::index::has_rows;
 use crate::judge::{put, report_of, same, Left, Lent, Report};
 use std::hint::black_box;
 
@@ -42,7 +43,7 @@ impl Engine for crate::judge::Second {
 }
 
 /// What some case must come to.
-pub const WANTED: [&str; 44] = [
+pub const WANTED: [&str; 52] = [
     "finished",
     "budget",
     "answers",
@@ -87,6 +88,14 @@ pub const WANTED: [&str; 44] = [
     "12, answer terms over 32 bits",
     "13",
     "13, no goals",
+    "rows: finished",
+    "rows: budget",
+    "rows: answers",
+    "rows: store",
+    "rows: a step not paid, budget left",
+    "rows: no clause to try",
+    "rows: 12",
+    "rows: 13",
 ];
 
 /// Stand in results that are not to be written.
@@ -137,6 +146,17 @@ pub fn judge(engine: &dyn Engine, case: &CarryCase) -> Result<(Vec<&'static str>
 }
 
 fn refused_labels(case: &CarryCase, refused: Refused) -> Vec<&'static str> {
+    let rows = crate::deck::open(&case.deck).is_ok_and(|deck| has_rows(&deck));
+    let mut labels = reasons(case, refused);
+    match refused.number() {
+        12 if rows => labels.push("rows: 12"),
+        13 if rows => labels.push("rows: 13"),
+        _ => {}
+    }
+    labels
+}
+
+fn reasons(case: &CarryCase, refused: Refused) -> Vec<&'static str> {
     let fault = match refused {
         Refused::Before(8) if case.store.len() < 1_024 => return vec!["8, too short"],
         Refused::Before(8) => return vec!["8, too long"],
@@ -184,7 +204,17 @@ fn ran_labels(case: &CarryCase, outcome: &Outcome) -> Vec<&'static str> {
     let (given, watch) = (case.given, &outcome.watch);
     let lengths = case.lengths();
     let unpaid = outcome.stop == Stop::Budget && watch.left > 0;
+    let rows = watch.rows.get() > 0;
+    let over_rows = [
+        "rows: finished",
+        "rows: budget",
+        "rows: answers",
+        "rows: store",
+    ];
     let more = [
+        (rows, over_rows[outcome.stop as usize]),
+        (rows && unpaid, "rows: a step not paid, budget left"),
+        (watch.empty_rows.get() > 0, "rows: no clause to try"),
         (unpaid, "a step not paid, budget left"),
         (
             unpaid && watch.cut > 0,

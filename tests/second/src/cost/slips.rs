@@ -3,7 +3,7 @@
 use super::Slip;
 use crate::carry::{self, Given};
 use crate::evaluation::{Limits, Outcome};
-use crate::judge::{put, report_of, Engine, Lent, Report};
+use crate::judge::{put, report_of, Engine, Lent, Report, Second};
 use crate::loose;
 
 pub struct Slipping {
@@ -73,7 +73,44 @@ impl carry::judge::Engine for Slipping {
     }
 }
 
-const fn slip(name: &'static str, slip: Slip) -> Slipping {
+/// Slips when it carries on, and not when it runs.
+pub struct Continued<'a>(pub &'a Slipping);
+
+impl Engine for Continued<'_> {
+    fn open(&self, deck: &[u16]) -> u32 {
+        crate::open(deck)
+    }
+
+    fn check(&self, deck: &[u16], query: &[u16]) -> u32 {
+        crate::check(deck, query)
+    }
+
+    fn run(
+        &self,
+        deck: &[u16],
+        query: &[u16],
+        budget: u32,
+        lent: Lent<'_>,
+        report: &mut Report,
+    ) -> u32 {
+        Second.run(deck, query, budget, lent, report)
+    }
+}
+
+impl carry::judge::Engine for Continued<'_> {
+    fn carry_on(
+        &self,
+        deck: &[u16],
+        given: Given,
+        budget: u32,
+        lent: Lent<'_>,
+        report: &mut Report,
+    ) -> u32 {
+        self.0.carry_on(deck, given, budget, lent, report)
+    }
+}
+
+pub(crate) const fn slip(name: &'static str, slip: Slip) -> Slipping {
     Slipping { name, slip }
 }
 

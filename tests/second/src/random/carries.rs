@@ -5,6 +5,7 @@ mod limits;
 mod shapes;
 
 use super::dice::Dice;
+use super::rows::rows;
 use super::sizes::near_a_step;
 use super::texts::small_world;
 use super::tight::{self, Ways};
@@ -18,9 +19,17 @@ pub use shapes::{shapes, Shape};
 /// Goals of a random deck, at times damaged; the same for ever.
 pub fn carry_case(seed: u64) -> CarryCase {
     let mut dice = Dice::new(seed ^ 0x5afe);
-    let mut world = small_world(&mut dice);
-    if dice.chance(14, 15) {
-        tight::make_tight(&mut dice, &mut world, Ways::Any);
+    let mut world;
+    if dice.chance(1, 20) {
+        world = rows(&mut dice);
+        if dice.chance(1, 3) {
+            loose_fact(&mut dice, &mut world);
+        }
+    } else {
+        world = small_world(&mut dice);
+        if dice.chance(14, 15) {
+            tight::make_tight(&mut dice, &mut world, Ways::Any);
+        }
     }
     let mut case = filled(&mut dice, &world);
     case.name = format!("filled-{seed}");
@@ -34,6 +43,14 @@ pub fn carry_case(seed: u64) -> CarryCase {
         case.name.push_str("-damaged");
     }
     case
+}
+
+/// A clause, wherever it stands, becomes a fact of variables.
+fn loose_fact(dice: &mut Dice, world: &mut World) {
+    let at = dice.below(world.clauses.len());
+    let predicate = world.clauses[at][0];
+    let variables = (0..world.arity(predicate)).map(|number| VARIABLE + number as u16);
+    world.clauses[at] = [predicate].into_iter().chain(variables).collect();
 }
 
 fn filled(dice: &mut Dice, world: &World) -> CarryCase {

@@ -55,7 +55,7 @@ pub(super) fn small_world(dice: &mut Dice) -> World {
 fn any_world(dice: &mut Dice) -> World {
     let seldom = dice.chance(1, 20);
     let weight = |family: &Family| {
-        if family.name == "large" {
+        if ["large", "full"].contains(&family.name) {
             seldom as usize
         } else {
             family.weight
