@@ -19,7 +19,8 @@
  *   leads_write_text  1 to 5, 11
  *   leads_continue    1 to 5, 8, 9, 12, 13
  *   leads_drill       1 to 5, 19
- * So a deck with a loose variable (13) can be opened, read and written as text, and mended, and its drill terms are listed, but it takes no query and no open goals.
+ *   leads_levels      1 to 5
+ * So a deck with a loose variable (13) can be opened, read and written as text, and mended, and its drill terms are listed and its levels told, but it takes no query and no open goals.
  *
  * A length is a number of words, or of bytes for text. A pointer may be anything where its length is 0, but not null; nor may a pointer to
  * a result be null. The slices must not overlap.
@@ -101,6 +102,16 @@ uint32_t leads_continue(const uint16_t *deck, size_t deck_words, uint64_t pendin
  * the symbols. */
 uint32_t leads_drill(const uint16_t *deck, size_t deck_words, uint32_t n, const uint16_t *after, size_t after_words,
                      uint16_t *list, size_t list_words, uint64_t *count);
+
+/* Which rules rest on which: refusals 1 to 5. A predicate's level is at least that of each predicate in its bodies, and at least one more where
+ * that one is negated. Where it returns 0, there are two cases:
+ *   circular is 0      there are levels, and the numbers are the least ones, from 0 on: at a symbol's number its level, 0 for functors and past
+ *                      the deck's symbols. A fresh run opens no level deeper than the highest among its query's literals, a negated one counting
+ *                      one more than its predicate
+ *   circular is not 0  there are none, and all numbers are 0: the predicate with the number circular - 1 is on a chain of rules through a "not"
+ *                      back to itself, and none with a lower number is
+ * There are 4,096 numbers. Of them as many are written as the list has words, from its start on; words behind them are untouched. */
+uint32_t leads_levels(const uint16_t *deck, size_t deck_words, uint16_t *levels, size_t level_words, uint32_t *circular);
 
 #ifdef __cplusplus
 }

@@ -3,6 +3,8 @@
 //! `bench read FILE`: the time of reading a text, in nanoseconds.
 
 use second::judge::{Lent, Report};
+use second::levels::NUMBERS;
+use second::random::levels::{largest as worst, SHAPES};
 use std::time::{Duration, Instant};
 
 const VARIABLE: u16 = 32768;
@@ -169,6 +171,20 @@ fn show(name: &str, (deck, query): &(Vec<u16>, Vec<u16>), budget: u32) {
     );
 }
 
+/// The time of one call for levels, the least of five.
+fn levels(name: &str, deck: &[u16]) {
+    let (mut list, mut circular) = (vec![0; NUMBERS], 0);
+    let mut once = || {
+        let start = Instant::now();
+        let refused = compare::levels(deck, &mut list, &mut circular);
+        assert_eq!(refused, 0, "the deck opens");
+        start.elapsed()
+    };
+    let least = (0..5).map(|_| once()).min().expect("five");
+    let told = if circular > 0 { format!("named {}", circular - 1) } else { format!("highest {}", list.iter().max().expect("4,096")) };
+    println!("{name:52} {:6} words {told:12} {least:9.1?} for levels", deck.len());
+}
+
 fn main() {
     let arguments: Vec<String> = std::env::args().skip(1).collect();
     let arguments: Vec<&str> = arguments.iter().map(String::as_str).collect();
@@ -196,5 +212,10 @@ fn runs() {
     }
     for n in [15, 16, 60] {
         show(&format!("vast {n}"), &vast(n), PROGRAM);
+    }
+    levels("leads 2000", &leads(2000).0);
+    levels("chain 100", &chain(100).0);
+    for (name, deck) in (0..SHAPES).map(worst) {
+        levels(&name, &deck);
     }
 }

@@ -3,3 +3,4 @@ pub mod CarryLaws
 pub mod PublicRun
 pub mod PublicTight
 pub mod PublicCarry
+pub mod PublicRanks

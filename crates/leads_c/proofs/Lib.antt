@@ -1,3 +1,4 @@
 pub mod CallLaws
 pub mod TextLaws
 pub mod DrillLaws
+pub mod LevelLaws

@@ -8,6 +8,7 @@ ghost use Rattle.evaluation.specs.Results.{result_of, slices};
 ghost use Rattle.leads_c.specs.Calls.{Called, CalledOn, Tells, numbers};
 ghost use Rattle.leads_c.specs.TextCalls.{ReadCalled, WriteCalled};
 ghost use Rattle.leads_c.specs.DrillCalls.{DrillCalled};
+ghost use Rattle.leads_c.specs.LevelCalls.{LevelsCalled, circular_number};
 
 use deck::Refusal;
 use reading::ReadError;
@@ -159,5 +160,28 @@ pub extern "C" fn leads_drill(
             0
         }
         Err(why) => u32::from(why),
+    }
+}
+
+#[unsafe(no_mangle)]
+pub extern "C" fn leads_levels(deck: &[u16], levels: &mut [u16], circular: &mut u32) -> u32
+    ensures { LevelsCalled deck.now levels.old circular.old result levels.new circular.new }
+{
+    match ranks::levels(deck, levels) {
+        Ok(named) => {
+            *circular = number(named);
+            0
+        }
+        Err(why) => u32::from(why),
+    }
+}
+
+// The predicate that is named as a number: one more than its own, 0 where none is.
+fn number(named: Option<u16>) -> u32
+    ensures { result ≡ circular_number named }
+{
+    match named {
+        Some(p) => 1 + u32::from(p),
+        None => 0,
     }
 }

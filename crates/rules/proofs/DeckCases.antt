@@ -13,7 +13,7 @@ use Rattle.rules.specs.All.{rules}
 use Rattle.rules.proofs.Table.{deck_l, deck_q}
 use Rattle.rules.proofs.MoreRuns.{deck_p, deck_n, deck_c, deck_f}
 
-abbrev clauses_of : List ℕ → List Clause
+abbrev pub clauses_of : List ℕ → List Clause
 clauses_of ws = elim (open_deck ws) [ refused n ↦ [] | accepted d ↦ d.clauses ]
 
 abbrev query_of : List ℕ → List ℕ → List Literal

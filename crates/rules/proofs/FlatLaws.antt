@@ -1,14 +1,18 @@
 -- The tests of document 02 on cells, for code that goes over a row once and counts no arities: which variables stand in positive literals (U5), and
 -- which predicates begin the literals (U8).
-use Prim.Native.Nat.{ℕ, ◌+◌}
+use Prim.Native.Nat.{ℕ, ◌+◌, ◌-◌}
 use mathlib.Core.Path.{◌≡◌, refl, ap, ap₂, ◌∙◌, sym}
 use mathlib.Core.Bool.{Bool, true, false}
 use mathlib.Core.List.{List, [], ◌∷◌}
+use native.Mathlib.Omega.{arith}
+use lib.Dec.{leb}
+use borrow.Author.Tests.{le-leb}
 use Rattle.rules.specs.Terms.{Term, var, app, Terms, nil, cons, vars_term, vars_terms}
 use Rattle.rules.specs.Syntax.{Symbol, Literal, pos, neg, map_literals, vars_literals}
-use Rattle.rules.specs.Cells.{write_term, write_terms, write_literals, Cell, variable, function, positive, negative, invalid, read_cell}
+use Rattle.rules.specs.Cells.{write_term, write_terms, write_literals, Cell, variable, function, positive, negative, invalid, variable_cell, read_cell}
 use Rattle.rules.specs.WellFormed.{All, WfTerm, WfTerms, WfLiterals}
 use Rattle.rules.specs.Loose.{positives, among, tight}
+use Rattle.rules.proofs.NextLaws.{either}
 unfoldable pub use Rattle.rules.specs.Loose.{standing_at, standing}
 use Rattle.rules.proofs.CellLaws.{Small, read_cell-var, after-term, after-terms}
 
@@ -109,25 +113,30 @@ beginning S [] = []
 beginning S (c ∷ cs) = beginning_at (read_cell S c) (beginning S cs)
 
 module _ (S : List Symbol) where
+  variable-begins : (v : ℕ) (ls : List Literal) → beginning_at (read_cell S (32768 + v)) ls ≡ ls
+  unfolding beginning_at read_cell variable_cell
+  variable-begins v ls =
+      rw (le-leb 32768 (32768 + v) (omega arith), read_cell)
+      (either (λ c. beginning_at c ls ≡ ls) (leb (32768 + v - 32768) 1023) (variable (32768 + v - 32768)) invalid (λ e. refl) (λ e. refl))
+
   mutual
     unfolding beginning beginning_at
 
-    term-begins : (t : Term) (vs rest : List ℕ) → WfTerm S t → All Small (vars_term t vs) → beginning S (write_term t rest) ≡ beginning S rest
-    term-begins (var v) vs rest w s = ap (λ c. beginning_at c (beginning S rest)) (read_cell-var S v s.0)
-    term-begins (app f ts) vs rest w s = ap (λ c. beginning_at c (beginning S (write_terms ts rest))) w.0 ∙ terms-begin ts vs rest w.1 s
+    term-begins : (t : Term) (rest : List ℕ) → WfTerm S t → beginning S (write_term t rest) ≡ beginning S rest
+    term-begins (var v) rest w = variable-begins v (beginning S rest)
+    term-begins (app f ts) rest w = ap (λ c. beginning_at c (beginning S (write_terms ts rest))) w.0 ∙ terms-begin ts rest w.1
 
-    pub terms-begin : (ts : Terms) (vs rest : List ℕ) → WfTerms S ts → All Small (vars_terms ts vs) → beginning S (write_terms ts rest) ≡ beginning S rest
-    terms-begin nil vs rest w s = refl
-    terms-begin (cons t ts) vs rest w s =
-        term-begins t (vars_terms ts vs) (write_terms ts rest) w.0 s ∙ terms-begin ts vs rest w.1 (after-term Small t (vars_terms ts vs) s)
+    pub terms-begin : (ts : Terms) (rest : List ℕ) → WfTerms S ts → beginning S (write_terms ts rest) ≡ beginning S rest
+    terms-begin nil rest w = refl
+    terms-begin (cons t ts) rest w = term-begins t (write_terms ts rest) w.0 ∙ terms-begin ts rest w.1
 
-  -- They are the literals, whose ranks do not depend on their terms (`highest-map`).
-  pub literals-begin : (ls : List Literal) → WfLiterals S ls → All Small (vars_literals ls) → beginning S (write_literals ls) ≡ map_literals (λ ts. nil) ls
+  -- They are the literals, whose ranks do not depend on their terms (`highest-map`), nor do the predicates that they name.
+  pub literals-begin : (ls : List Literal) → WfLiterals S ls → beginning S (write_literals ls) ≡ map_literals (λ ts. nil) ls
   unfolding beginning beginning_at
-  literals-begin [] w s = refl
-  literals-begin (pos p ts ∷ ls) w s =
+  literals-begin [] w = refl
+  literals-begin (pos p ts ∷ ls) w =
       ap (λ c. beginning_at c (beginning S (write_terms ts (write_literals ls)))) w.0.0
-      ∙ ap (◌∷◌ (pos p nil)) (terms-begin ts (vars_literals ls) (write_literals ls) w.0.1 s ∙ literals-begin ls w.1 (after-terms Small ts (vars_literals ls) s))
-  literals-begin (neg p ts ∷ ls) w s =
+      ∙ ap (◌∷◌ (pos p nil)) (terms-begin ts (write_literals ls) w.0.1 ∙ literals-begin ls w.1)
+  literals-begin (neg p ts ∷ ls) w =
       ap (λ c. beginning_at c (beginning S (write_terms ts (write_literals ls)))) w.0.0
-      ∙ ap (◌∷◌ (neg p nil)) (terms-begin ts (vars_literals ls) (write_literals ls) w.0.1 s ∙ literals-begin ls w.1 (after-terms Small ts (vars_literals ls) s))
+      ∙ ap (◌∷◌ (neg p nil)) (terms-begin ts (write_literals ls) w.0.1 ∙ literals-begin ls w.1)

@@ -48,9 +48,16 @@ pub mod PassLaws
 pub mod OccursLaws
 pub mod TightLaws
 pub mod TightRuns
+-- Which rules rest on which.
+pub mod RankLaws
+pub mod RankSearch
+pub mod RankTelling
+pub mod RankRuns
+-- Both tests on cells, and on the decks of the tables.
 pub mod FlatLaws
 pub mod DeckCases
 pub mod GrowingRun
+pub mod RankTable
 -- Three values.
 pub mod ValueLaws
 pub mod Fitting

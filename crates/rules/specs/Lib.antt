@@ -11,6 +11,7 @@ pub mod Unification
 pub mod Resolution
 pub mod Evaluation
 pub mod Passes
+pub mod Ranks
 pub mod Stored
 pub mod Run
 pub mod Meaning

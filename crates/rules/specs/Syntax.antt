@@ -26,7 +26,11 @@ pub record Goal : Type 0 where
   pub answers : Terms
   pub literals : List Literal
 
--- A literal's terms; the literals with a change of their terms.
+-- A literal's predicate and its terms; the literals with a change of their terms.
+abbrev pub predicate_of : Literal → ℕ
+predicate_of (pos p ts) = p
+predicate_of (neg p ts) = p
+
 abbrev pub arguments : Literal → Terms
 arguments (pos p ts) = ts
 arguments (neg p ts) = ts

@@ -81,6 +81,13 @@ mod c {
             list_words: usize,
             count: *mut u64,
         ) -> u32;
+        pub fn leads_levels(
+            deck: *const u16,
+            deck_words: usize,
+            levels: *mut u16,
+            level_words: usize,
+            circular: *mut u32,
+        ) -> u32;
     }
 }
 
@@ -161,6 +168,11 @@ pub fn drill(deck: &[u16], n: u32, after: &[u16], list: &mut [u16], count: &mut 
     unsafe { c::leads_drill(deck.as_ptr(), deck.len(), n, after, after_words, list.as_mut_ptr(), list.len(), count) }
 }
 
+/// 0, the numbers and the name, or the refusal's number, 1 to 5, with nothing touched.
+pub fn levels(deck: &[u16], levels: &mut [u16], circular: &mut u32) -> u32 {
+    unsafe { c::leads_levels(deck.as_ptr(), deck.len(), levels.as_mut_ptr(), levels.len(), circular) }
+}
+
 /// The engine behind the calls that the second evaluator judges.
 pub struct Leads;
 
@@ -204,5 +216,11 @@ impl second::text::judge::Engine for Leads {
 impl second::drill::judge::Engine for Leads {
     fn drill(&self, deck: &[u16], n: u32, after: &[u16], list: &mut [u16], count: &mut u64) -> u32 {
         drill(deck, n, after, list, count)
+    }
+}
+
+impl second::levels::judge::Engine for Leads {
+    fn levels(&self, deck: &[u16], list: &mut [u16], circular: &mut u32) -> u32 {
+        levels(deck, list, circular)
     }
 }

@@ -7,6 +7,8 @@ use second::drill::judge as drills;
 use second::drill::slips::SLIPS as DRILLING;
 use second::index::slips::SLIPS as TRYING;
 use second::judge::{Engine as Runs, Lent, Report};
+use second::levels::judge as ranks;
+use second::levels::slips::SLIPS as RANKING;
 use second::loose::slips as loose;
 use second::text::judge::{Engine, Second};
 use second::text::slips::SLIPS;
@@ -39,6 +41,11 @@ static DRILLS: LazyLock<&dyn drills::Engine> = LazyLock::new(|| match DRILLING.i
     None => &drills::Second,
 });
 
+static LEVELS: LazyLock<&dyn ranks::Engine> = LazyLock::new(|| match RANKING.iter().find(|slip| named(slip.name)) {
+    Some(slip) => slip,
+    None => &ranks::Second,
+});
+
 /// The slip of this name is asked for. A name that no slip has is an error.
 fn named(name: &str) -> bool {
     std::env::var("SLIP").is_ok_and(|wanted| {
@@ -46,7 +53,8 @@ fn named(name: &str) -> bool {
         let runs = loose::SLIPS.iter().map(|slip| slip.name);
         let paying = PAYING.iter().chain(&TRYING).map(|slip| slip.name);
         let drilling = DRILLING.iter().map(|slip| slip.name);
-        let mut all = texts.chain(slips::SLIPS.iter().map(|slip| slip.name)).chain(runs).chain(paying).chain(drilling);
+        let ranking = RANKING.iter().map(|slip| slip.name);
+        let mut all = texts.chain(slips::SLIPS.iter().map(|slip| slip.name)).chain(runs).chain(paying).chain(drilling).chain(ranking);
         assert!(all.any(|one| one == wanted), "no slip of this name");
         wanted == name
     })
@@ -202,4 +210,19 @@ pub unsafe extern "C" fn leads_drill(
 ) -> u32 {
     let (deck, after) = (from_raw_parts(deck, deck_words), from_raw_parts(after, after_words));
     DRILLS.drill(deck, n, after, from_raw_parts_mut(list, list_words), &mut *count)
+}
+
+/// # Safety
+/// As in `include/leads.h`.
+#[no_mangle]
+pub unsafe extern "C" fn leads_levels(
+    deck: *const u16,
+    deck_words: usize,
+    levels: *mut u16,
+    level_words: usize,
+    circular: *mut u32,
+) -> u32 {
+    let deck = from_raw_parts(deck, deck_words);
+    let levels = from_raw_parts_mut(levels, level_words);
+    LEVELS.levels(deck, levels, &mut *circular)
 }

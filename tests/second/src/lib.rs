@@ -13,6 +13,7 @@ pub mod goals;
 mod guarded;
 pub mod index;
 pub mod judge;
+pub mod levels;
 pub mod listing;
 pub mod loose;
 pub mod query;

@@ -4,6 +4,7 @@ pub mod carries;
 mod damage;
 pub(crate) mod dice;
 mod families;
+pub mod levels;
 mod limits;
 mod programs;
 mod rows;

@@ -96,7 +96,7 @@ pub fn write_case(seed: u64) -> WriteCase {
     WriteCase { name, deck, room }
 }
 
-fn damaged(dice: &mut Dice, world: World) -> Vec<u16> {
+pub(super) fn damaged(dice: &mut Dice, world: World) -> Vec<u16> {
     let mut case = Case {
         name: String::new(),
         deck: world.deck(),

@@ -1,0 +1,4 @@
+pub mod Literals
+pub mod Raising
+pub mod Searching
+pub mod Answers

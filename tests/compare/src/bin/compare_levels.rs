@@ -1,0 +1,41 @@
+//! `compare_levels [cases] [first seed]`: the levels of decks, the engine against the second evaluator: the vectors, the largest decks, then
+//! random ones. A difference ends it, with the deck made small.
+
+use compare::Leads;
+use second::levels::comparison::{together, Comparison, Reached};
+use std::time::Instant;
+
+fn main() {
+    let mut arguments = std::env::args().skip(1);
+    let mut number = |otherwise: u64| {
+        let argument = arguments.next();
+        argument.map_or(otherwise, |text| text.parse().expect("a number"))
+    };
+    let (cases, first) = (number(100_000), number(0));
+    let start = Instant::now();
+    let all = std::thread::scope(|scope| {
+        let halves = [0, 1].map(|odd| scope.spawn(move || half(odd, first, cases)));
+        halves.map(|half| half.join().expect("a half that ends").unwrap_or_else(|what| fail(&what)))
+    });
+    let reached = together(all.to_vec()).unwrap_or_else(|what| fail(&what));
+    let calls: usize = reached.values().sum();
+    println!("the levels of {calls} decks agree, {cases} of them random, {:.0?}: {reached:?}", start.elapsed());
+}
+
+/// Of all cases, every second one.
+fn half(odd: u64, first: u64, cases: u64) -> Result<Reached, String> {
+    let mut comparison = Comparison::new(&Leads);
+    if odd == 0 {
+        let file = concat!(env!("CARGO_MANIFEST_DIR"), "/../vectors/levels.txt");
+        comparison.vectors(&std::fs::read_to_string(file).expect("the vectors"))?;
+    } else {
+        comparison.limits()?;
+    }
+    (first + odd..first + cases).step_by(2).try_for_each(|seed| comparison.random(seed))?;
+    Ok(comparison.reached)
+}
+
+fn fail(what: &str) -> ! {
+    println!("{what}");
+    std::process::exit(1)
+}
