@@ -10,14 +10,16 @@
  *  12  the store does not begin with the open goals that are said to be there
  *  13  a variable of a clause is in no positive literal of its body
  *  14  a variable of the query is in none of its positive literals
+ *  15  a member's list that has not one word a symbol, or another word than 0, or 1 for a predicate
+ *  16  a barred predicate is among the query's literals, or those of the open goals, or is reached from them
  *  19  drill terms of over 8 cells, or after a term that is not of their list
  * Checks go in number order, each over everything before the next. A call makes those that are about what it is given:
  *   leads_open        1 to 5
  *   leads_check       1 to 7, 13, 14
- *   leads_run         1 to 9, 13, 14
+ *   leads_run         1 to 9, 13 to 16
  *   leads_read_text   10, 11, then 1 to 5
  *   leads_write_text  1 to 5, 11
- *   leads_continue    1 to 5, 8, 9, 12, 13
+ *   leads_continue    1 to 5, 8, 9, 12, 13, 15, 16
  *   leads_drill       1 to 5, 19
  *   leads_levels      1 to 5
  * So a deck with a loose variable (13) can be opened, read and written as text, and mended, and its drill terms are listed and its levels told, but it takes no query and no open goals.
@@ -41,7 +43,12 @@ uint32_t leads_open(const uint16_t *deck, size_t deck_words);
 /* Checks a query against a deck: refusals 1 to 7, 13 and 14. */
 uint32_t leads_check(const uint16_t *deck, size_t deck_words, const uint16_t *query, size_t query_words);
 
-/* Runs a query: refusals 1 to 9, 13 and 14. Where it returns 0:
+/* Runs a query for a member: refusals 1 to 9 and 13 to 16. bars is the member's list, one word a symbol: 1 bars a predicate, 0 doesn't, and functors have
+ * 0; a list of zeros bars nothing. A query is refused with 16 if a barred predicate is among its literals or can be reached from them through
+ * clause bodies, negated or not, whether or not anything matches there. So over two decks that pass 1 to 5 and 13, with the same symbols, and the same
+ * clauses in the same order about every predicate that is not barred and that the query names or reaches, the same query, list, budget and
+ * lengths give the same: the same refusal, or the same stop, steps, cost and counts, the same answers and the same open goals. Nothing is promised
+ * of the rest of the store and of the scratch, nor of the time that a call takes, which grows with the whole deck. Where it returns 0:
  *   stop          0 finished, 1 the next step's cost is not left of the budget, 2 the next answer does not fit, 3 the next step's goals
  *                 do not fit the store
  *   steps         the steps used over all levels, at most the cost
@@ -60,9 +67,9 @@ uint32_t leads_check(const uint16_t *deck, size_t deck_words, const uint16_t *qu
  * word 1: the number of its answer-term cells; then its cells, answer terms first, then literals.
  * No goal of a query is left with mark 1, and no answer has a variable.
  * Every length of the answer list and every budget is accepted, 0 included. */
-uint32_t leads_run(const uint16_t *deck, size_t deck_words, const uint16_t *query, size_t query_words, uint32_t budget,
-                   uint16_t *answers, size_t answer_words, uint16_t *store, size_t store_words, uint16_t *scratch,
-                   size_t scratch_words, uint32_t *stop, uint32_t *steps, uint32_t *cost, uint64_t *answer_count,
+uint32_t leads_run(const uint16_t *deck, size_t deck_words, const uint16_t *query, size_t query_words, const uint16_t *bars,
+                   size_t bar_words, uint32_t budget, uint16_t *answers, size_t answer_words, uint16_t *store, size_t store_words,
+                   uint16_t *scratch, size_t scratch_words, uint32_t *stop, uint32_t *steps, uint32_t *cost, uint64_t *answer_count,
                    uint32_t *pending, uint32_t *parked);
 
 /* Reads a text as a deck: refusal 10 of the text, then 11 where the words do not fit in the list or are over 16,384, then 1 to 5 of the
@@ -77,21 +84,23 @@ uint32_t leads_read_text(const uint8_t *text, size_t text_bytes, uint16_t *deck,
  * as `s4(_0) :- s2(_0), ~s3(_0).`; each ends in byte 10. */
 uint32_t leads_write_text(const uint16_t *deck, size_t deck_words, uint8_t *text, size_t text_room, size_t *text_bytes);
 
-/* Carries on from the goals at the start of the store: refusals 1 to 5, 8, 9, 12 and 13. pending and parked are their numbers, as the run before
+/* Carries on from the goals at the start of the store: refusals 1 to 5, 8, 9, 12, 13, 15 and 16. pending and parked are their numbers, as the run before
  * has returned them, and terms is the number of answer terms of each: for the goals of a query, the number of its variables. To carry on,
- * pass the same deck, the store as it was left (or a store of another length that begins with its goals) and a new budget, and take the
+ * pass the same deck, the same list bars, the store as it was left (or a store of another length that begins with its goals) and a new budget, and take the
  * answers of all runs together: each lists its own from the start of its list. Any store may be passed that begins with that many goals
  * over the deck's symbols and their arities, none at all included (then the run is finished with 0 steps):
  * pending ones marked 0, then parked ones marked 1 to 4, each of that many answer terms and 1,024 words or fewer, its variables numbered by
  * first appearance, answer terms first; else it is refused with 12. Goals that no run has left may have loose variables: then one may be
  * parked with mark 1, and an answer may have a variable. Pending goals go on, parked ones stay parked, with new ones behind them.
+ * For a member, 16 looks from the literals of all given goals, pending and parked; what a run has left is not refused for the same list, and
+ * over two decks as above, from stores of one length that begin with the same goals, the member gets the same.
  * A "not" that was cut short has left its goal first and pending, as it was, and is done again from its start: so the steps and the cost of
  * the runs need not add up to those of one run, and with a budget too small for the whole "not", or for one step, nothing moves. The results
  * are as those of leads_run: steps, cost and answer_count of this call, pending_after and parked_after the numbers of goals that the store
  * begins with now. */
-uint32_t leads_continue(const uint16_t *deck, size_t deck_words, uint64_t pending, uint64_t parked, uint64_t terms, uint32_t budget,
-                        uint16_t *answers, size_t answer_words, uint16_t *store, size_t store_words, uint16_t *scratch,
-                        size_t scratch_words, uint32_t *stop, uint32_t *steps, uint32_t *cost, uint64_t *answer_count,
+uint32_t leads_continue(const uint16_t *deck, size_t deck_words, uint64_t pending, uint64_t parked, uint64_t terms,
+                        const uint16_t *bars, size_t bar_words, uint32_t budget, uint16_t *answers, size_t answer_words,
+                        uint16_t *store, size_t store_words, uint16_t *scratch, size_t scratch_words, uint32_t *stop, uint32_t *steps, uint32_t *cost, uint64_t *answer_count,
                         uint32_t *pending_after, uint32_t *parked_after);
 
 /* Lists drill terms: all variable-free terms of at most n cells over the deck's functors, n from 0 to 8, shorter first, then by cells

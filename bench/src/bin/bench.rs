@@ -129,6 +129,11 @@ const BUDGET: u32 = 100_000_000;
 /// The program's own.
 const PROGRAM: u32 = 100_000;
 
+/// A list of zeros, a word for each symbol.
+fn nothing_barred(deck: &[u16]) -> Vec<u16> {
+    vec![0; deck[1] as usize]
+}
+
 struct Timed {
     report: Report,
     each: Duration,
@@ -136,12 +141,13 @@ struct Timed {
 
 fn timed(deck: &[u16], query: &[u16], budget: u32) -> Timed {
     let (mut answers, mut store, mut scratch) = (vec![0; 8192], vec![0; 16384], vec![0; 8192]);
+    let bars = nothing_barred(deck);
     let mut report = Report::default();
     let mut runs = 0;
     let start = Instant::now();
     while runs < 3 || start.elapsed() < Duration::from_millis(500) {
         let lent = Lent { answers: &mut answers, store: &mut store, scratch: &mut scratch };
-        let refused = compare::run(deck, query, budget, lent, &mut report);
+        let refused = compare::run(deck, query, &bars, budget, lent, &mut report);
         assert_eq!(refused, 0, "the deck is accepted");
         runs += 1;
     }
@@ -150,7 +156,7 @@ fn timed(deck: &[u16], query: &[u16], budget: u32) -> Timed {
 
 /// The clauses that a run tries, counted by the second evaluator.
 fn tried(deck: &[u16], query: &[u16], budget: u32) -> u64 {
-    second::run(deck, query, budget, 8192, 16384, 8192).expect("the deck is accepted").watch.tried.get()
+    second::run(deck, query, &nothing_barred(deck), budget, 8192, 16384, 8192).expect("the deck is accepted").watch.tried.get()
 }
 
 fn show(name: &str, (deck, query): &(Vec<u16>, Vec<u16>), budget: u32) {

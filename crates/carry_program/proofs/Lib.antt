@@ -1,4 +1,5 @@
 pub mod InputLaws
+pub mod BarLaws
 pub mod OutputLaws
 pub mod EndLaws
 pub mod RunLaws

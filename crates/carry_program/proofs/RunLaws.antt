@@ -16,7 +16,7 @@ use Rattle.rules.specs.Stored.{read_open}
 use Rattle.rules.specs.Evaluation.{Outcome, evaluate}
 use Rattle.rules.specs.Run.{run, run_on, carry, carry_on, carry_from, Report, report, store_start, Slices, Filled, Leaves, Ran, RanOn}
 use Rattle.rules.specs.Program.{words_from, query_input}
-use Rattle.rules.specs.CarryProgram.{Kept, number_from, deck_input, open_words, open_run, goals_input, store_from, carry_bytes, carry_run}
+use Rattle.rules.specs.CarryProgram.{Kept, number_from, deck_input, bars_from, open_words, open_run, goals_input, store_from, carry_bytes, carry_run}
 use Rattle.rules.specs.WellFormed.{All, WfGoal, WfMarked}
 use Rattle.rules.proofs.ListLaws.{all-weaken}
 use Rattle.rules.proofs.DeckLaws.{steps-open, opened-written, query-reads}
@@ -79,25 +79,33 @@ unfolding check_query check_tight_query check_tight require and_then
 query-checked deck_words query_words d query o a t u = rw (o, a, t, u) refl
 
 -- FRESH RUNS
-module _ (deck_words query_words : List ℕ) (budget : ℕ) (entry exit : Slices) (b : Buffers entry) where
-  same-run : run deck_words query_words budget 8192 16384 8192 ≡ run_on deck_words query_words budget entry
-  unfolding run_on
-  same-run = rw (b.answers, b.store, b.scratch)
+pub open-deck :
+    (deck_words query_words : List ℕ) (file : Option (List ℕ)) (budget : ℕ) (n : Refusal) → open_deck deck_words ≡ refused n → open_words deck_words query_words file budget ≡ refused n
+unfolding open_words
+open-deck deck_words query_words file budget n e = and_then-refused (open_deck deck_words) _ n e
 
-  pub open-refused : (n : Refusal) → Ran deck_words query_words budget entry (refused n) exit → open_words deck_words query_words budget ≡ refused n
+module _ (deck_words query_words bars : List ℕ) (d : Deck) (opens : open_deck deck_words ≡ accepted d) (file : Option (List ℕ)) (list : bars ≡ bars_from (length d.symbols) file) (budget : ℕ)
+    (entry exit : Slices) (b : Buffers entry) where
+  same-run : run deck_words query_words (bars_from (length d.symbols) file) budget 8192 16384 8192 ≡ run_on deck_words query_words bars budget entry
+  unfolding run_on
+  same-run = rw (list, b.answers, b.store, b.scratch)
+
+  pub open-refused : (n : Refusal) → Ran deck_words query_words bars budget entry (refused n) exit → open_words deck_words query_words file budget ≡ refused n
   unfolding open_words
-  open-refused n r = and_then-refused (run deck_words query_words budget 8192 16384 8192) _ n (same-run ∙ returned-refused _ n r.returns)
+  open-refused n r =
+      and_then-accepted (open_deck deck_words) _ d opens
+      ∙ and_then-refused (run deck_words query_words (bars_from (length d.symbols) file) budget 8192 16384 8192) _ n (same-run ∙ returned-refused _ n r.returns)
 
   pub open_done : (r : code.Report) (terms : ℕ)
       → ((ar : List ℕ) (answers : ℕ) (S : List Symbol) (g : Goal) → GoalCells ar query_words answers S g → terms ≡ top_goal g)
-      → Ran deck_words query_words budget entry (accepted (report_of r)) exit
-      → Finished (open_words deck_words query_words budget) deck_words terms exit.answers exit.store r
+      → Ran deck_words query_words bars budget entry (accepted (report_of r)) exit
+      → Finished (open_words deck_words query_words file budget) deck_words terms exit.answers exit.store r
   unfolding open_words query_variables first_goal Leaves run_on
   open_done r terms many ran =
       let t = returned-accepted _ (report_of r) ran.returns in
       let o = t.0 in
       let left : Filled o entry exit = subst (λ (x : Checked Outcome). Leaves x entry exit) t.1 ran.leaves in
-      let a = run-accepted deck_words query_words budget (length entry.answers) (length entry.store) (length entry.scratch) o t.1 in
+      let a = run-accepted deck_words query_words bars budget (length entry.answers) (length entry.store) (length entry.scratch) o t.1 in
       let q = query-reads a.deck query_words a.query a.asks in
       let cells = query-cells (record { symbols = (steps-open deck_words a.deck a.opens).symbols; well_formed = q.1; are = q.0 }) in
       let named : terms ≡ length (query_variables a.query) =
@@ -107,10 +115,10 @@ module _ (deck_words query_words : List ℕ) (budget : ℕ) (entry exit : Slices
         many = variables-count (query_variables a.query) ∙ sym named;
       } in
       let checks : check_query deck_words query_words ≡ accepted a.query = query-checked deck_words query_words a.deck a.query a.opens a.asks a.tight_deck a.tight_asked in
-      let comes : open_words deck_words query_words budget ≡ accepted (record { outcome = o; terms = terms }) =
-      and_then-accepted (run deck_words query_words budget 8192 16384 8192) _ o (same-run ∙ t.1) ∙ and_then-accepted (check_query deck_words query_words) _ a.query checks
+      let comes : open_words deck_words query_words file budget ≡ accepted (record { outcome = o; terms = terms }) =
+      and_then-accepted (open_deck deck_words) _ d opens ∙ and_then-accepted (run deck_words query_words (bars_from (length d.symbols) file) budget 8192 16384 8192) _ o (same-run ∙ t.1) ∙ and_then-accepted (check_query deck_words query_words) _ a.query checks
       ∙ ap {B = Checked Kept} (λ (n : ℕ). accepted (record { outcome = o; terms = n })) (sym named) in
-      finished deck_words a.deck a.opens terms budget (first_goal a.query ∷ []) [] (first, tt) tt entry exit o a.evaluates left (open_words deck_words query_words budget) comes r t.2
+      finished deck_words a.deck a.opens terms budget (first_goal a.query ∷ []) [] (first, tt) tt entry exit o a.evaluates left (open_words deck_words query_words file budget) comes r t.2
 
 -- RUNS THAT CARRY ON
 words-few : (bytes : List ℕ) → 2 * length (words_from bytes) ≤ length bytes
@@ -129,7 +137,12 @@ pub goals-stored : (bytes part : List ℕ) {n : ℕ} {store : List ℕ} → part
 goals-stored bytes part {n} {store} e h p =
     stored-from (subst (λ (xs : List ℕ). Put (replicate 16384 0) 0 (words_from xs) n store) e p) (omega (arith, words-few (drop 24 bytes), length-drop 24 bytes))
 
-module _ (deck_words bytes : List ℕ) (budget : ℕ) (entry exit : Slices) (b : Buffers entry) (s : entry.store ≡ store_from (words_from (drop 24 bytes))) where
+pub carry-deck : (deck_words bytes : List ℕ) (file : Option (List ℕ)) (budget : ℕ) (n : Refusal) → open_deck deck_words ≡ refused n → carry_bytes deck_words bytes file budget ≡ refused n
+unfolding carry_bytes
+carry-deck deck_words bytes file budget n e = and_then-refused (open_deck deck_words) _ n e
+
+module _ (deck_words bytes bars : List ℕ) (d : Deck) (opens : open_deck deck_words ≡ accepted d) (file : Option (List ℕ)) (list : bars ≡ bars_from (length d.symbols) file) (budget : ℕ)
+    (entry exit : Slices) (b : Buffers entry) (s : entry.store ≡ store_from (words_from (drop 24 bytes))) where
   abbrev pending : ℕ
   pending = number_from 8 bytes
 
@@ -139,60 +152,65 @@ module _ (deck_words bytes : List ℕ) (budget : ℕ) (entry exit : Slices) (b :
   abbrev terms : ℕ
   terms = number_from 8 (drop 16 bytes)
 
-  same-carry : carry_on (carry deck_words pending parked terms (store_from (words_from (drop 24 bytes))) 8192) budget 8192 16384 ≡ carry_from deck_words pending parked terms budget entry
-  unfolding carry_from
-  same-carry = rw (b.answers, b.store, b.scratch, s)
+  abbrev listed : List ℕ
+  listed = bars_from (length d.symbols) file
 
-  pub carry-refused : (n : Refusal) → RanOn deck_words pending parked terms budget entry (refused n) exit → carry_bytes deck_words bytes budget ≡ refused n
+  same-carry : carry_on (carry deck_words pending parked terms (store_from (words_from (drop 24 bytes))) 8192) listed budget 8192 16384 ≡ carry_from deck_words pending parked terms bars budget entry
+  unfolding carry_from
+  same-carry = rw (list, b.answers, b.store, b.scratch, s)
+
+  pub carry-refused : (n : Refusal) → RanOn deck_words pending parked terms bars budget entry (refused n) exit → carry_bytes deck_words bytes file budget ≡ refused n
   unfolding carry_bytes
   carry-refused n r =
-      and_then-refused (carry_on (carry deck_words pending parked terms (store_from (words_from (drop 24 bytes))) 8192) budget 8192 16384) _ n (same-carry ∙ returned-refused _ n r.returns)
+      and_then-accepted (open_deck deck_words) _ d opens
+      ∙ and_then-refused (carry_on (carry deck_words pending parked terms (store_from (words_from (drop 24 bytes))) 8192) listed budget 8192 16384) _ n (same-carry ∙ returned-refused _ n r.returns)
 
-  pub carry-done : (r : code.Report) → RanOn deck_words pending parked terms budget entry (accepted (report_of r)) exit
-      → Finished (carry_bytes deck_words bytes budget) deck_words terms exit.answers exit.store r
+  pub carry-done : (r : code.Report) → RanOn deck_words pending parked terms bars budget entry (accepted (report_of r)) exit
+      → Finished (carry_bytes deck_words bytes file budget) deck_words terms exit.answers exit.store r
   unfolding carry_bytes Leaves carry_from
   carry-done r ran =
       let t = returned-accepted _ (report_of r) ran.returns in
       let o = t.0 in
       let left : Filled o entry exit = subst (λ (x : Checked Outcome). Leaves x entry exit) t.1 ran.leaves in
-      let a = carry-accepted deck_words pending parked terms budget (length entry.answers) entry.store (length entry.scratch) o t.1 in
+      let a = carry-accepted deck_words pending parked terms bars budget (length entry.answers) entry.store (length entry.scratch) o t.1 in
       let q = open-reads a.deck.symbols pending parked terms entry.store a.goals a.carries in
-      let comes : carry_bytes deck_words bytes budget ≡ accepted (record { outcome = o; terms = terms }) =
-      and_then-accepted (carry_on (carry deck_words pending parked terms (store_from (words_from (drop 24 bytes))) 8192) budget 8192 16384) _ o (same-carry ∙ t.1) in
-      finished deck_words a.deck a.opens terms budget a.goals.pending a.goals.parked q.pending q.parked entry exit o a.evaluates left (carry_bytes deck_words bytes budget) comes r t.2
+      let comes : carry_bytes deck_words bytes file budget ≡ accepted (record { outcome = o; terms = terms }) =
+      and_then-accepted (open_deck deck_words) _ d opens
+      ∙ and_then-accepted (carry_on (carry deck_words pending parked terms (store_from (words_from (drop 24 bytes))) 8192) listed budget 8192 16384) _ o (same-carry ∙ t.1) in
+      finished deck_words a.deck a.opens terms budget a.goals.pending a.goals.parked q.pending q.parked entry exit o a.evaluates left (carry_bytes deck_words bytes file budget) comes r t.2
 
 -- The same of numbers that are those of the file.
-module _ (deck_words bytes : List ℕ) (budget p q t : ℕ) (e : p ≡ number_from 8 bytes) (f : q ≡ number_from 8 (drop 8 bytes)) (g : t ≡ number_from 8 (drop 16 bytes)) (result : Checked Report)
+module _ (deck_words bytes bars : List ℕ) (budget p q t : ℕ) (e : p ≡ number_from 8 bytes) (f : q ≡ number_from 8 (drop 8 bytes)) (g : t ≡ number_from 8 (drop 16 bytes)) (result : Checked Report)
     (entry exit : Slices) where
-  pub numbered : RanOn deck_words p q t budget entry result exit
-      → RanOn deck_words (number_from 8 bytes) (number_from 8 (drop 8 bytes)) (number_from 8 (drop 16 bytes)) budget entry result exit
-  numbered r = subst (λ (n : ℕ). RanOn deck_words (number_from 8 bytes) (number_from 8 (drop 8 bytes)) n budget entry result exit) g
-      (subst (λ (n : ℕ). RanOn deck_words (number_from 8 bytes) n t budget entry result exit) f
-      (subst (λ (n : ℕ). RanOn deck_words n q t budget entry result exit) e r))
+  pub numbered : RanOn deck_words p q t bars budget entry result exit
+      → RanOn deck_words (number_from 8 bytes) (number_from 8 (drop 8 bytes)) (number_from 8 (drop 16 bytes)) bars budget entry result exit
+  numbered r = subst (λ (n : ℕ). RanOn deck_words (number_from 8 bytes) (number_from 8 (drop 8 bytes)) n bars budget entry result exit) g
+      (subst (λ (n : ℕ). RanOn deck_words (number_from 8 bytes) n t bars budget entry result exit) f
+      (subst (λ (n : ℕ). RanOn deck_words n q t bars budget entry result exit) e r))
 
 -- THE PROGRAMS, test by test
-module _ (file : Option (List ℕ)) (budget : ℕ) where
-  pub open_run-deck : (input : List ℕ) (n : Refusal) → deck_input file ≡ refused n → open_run file input budget ≡ refused n
+module _ (file bars : Option (List ℕ)) (budget : ℕ) where
+  pub open_run-deck : (input : List ℕ) (n : Refusal) → deck_input file ≡ refused n → open_run file input bars budget ≡ refused n
   unfolding open_run
   open_run-deck input n e = and_then-refused (deck_input file) _ n e
 
-  pub carry_run-deck : (goals : Option (List ℕ)) (n : Refusal) → deck_input file ≡ refused n → carry_run file goals budget ≡ refused n
+  pub carry_run-deck : (goals : Option (List ℕ)) (n : Refusal) → deck_input file ≡ refused n → carry_run file goals bars budget ≡ refused n
   unfolding carry_run
   carry_run-deck goals n e = and_then-refused (deck_input file) _ n e
 
   module _ (deck_words : List ℕ) (d : deck_input file ≡ accepted deck_words) where
-    pub open_run-query : (input : List ℕ) (n : Refusal) → query_input input ≡ refused n → open_run file input budget ≡ refused n
+    pub open_run-query : (input : List ℕ) (n : Refusal) → query_input input ≡ refused n → open_run file input bars budget ≡ refused n
     unfolding open_run
     open_run-query input n e = and_then-accepted (deck_input file) _ deck_words d ∙ and_then-refused (query_input input) _ n e
 
-    pub open_run-words : (input query_words : List ℕ) → query_input input ≡ accepted query_words → open_run file input budget ≡ open_words deck_words query_words budget
+    pub open_run-words : (input query_words : List ℕ) → query_input input ≡ accepted query_words → open_run file input bars budget ≡ open_words deck_words query_words bars budget
     unfolding open_run
     open_run-words input query_words e = and_then-accepted (deck_input file) _ deck_words d ∙ and_then-accepted (query_input input) _ query_words e
 
-    pub carry_run-goals : (goals : Option (List ℕ)) (n : Refusal) → goals_input goals ≡ refused n → carry_run file goals budget ≡ refused n
+    pub carry_run-goals : (goals : Option (List ℕ)) (n : Refusal) → goals_input goals ≡ refused n → carry_run file goals bars budget ≡ refused n
     unfolding carry_run
     carry_run-goals goals n e = and_then-accepted (deck_input file) _ deck_words d ∙ and_then-refused (goals_input goals) _ n e
 
-    pub carry_run-bytes : (goals : Option (List ℕ)) (bytes : List ℕ) → goals_input goals ≡ accepted bytes → carry_run file goals budget ≡ carry_bytes deck_words bytes budget
+    pub carry_run-bytes : (goals : Option (List ℕ)) (bytes : List ℕ) → goals_input goals ≡ accepted bytes → carry_run file goals bars budget ≡ carry_bytes deck_words bytes bars budget
     unfolding carry_run
     carry_run-bytes goals bytes e = and_then-accepted (deck_input file) _ deck_words d ∙ and_then-accepted (goals_input goals) _ bytes e

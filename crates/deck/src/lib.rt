@@ -36,6 +36,8 @@ pub enum Refusal {
     Goals,
     LooseClause,
     LooseQuery,
+    Bars,
+    Barred,
     Drill,
 }
 
@@ -69,6 +71,8 @@ impl From<Refusal> for u32 {
             Refusal::Goals => 12,
             Refusal::LooseClause => 13,
             Refusal::LooseQuery => 14,
+            Refusal::Bars => 15,
+            Refusal::Barred => 16,
             Refusal::Drill => 19,
         }
     }

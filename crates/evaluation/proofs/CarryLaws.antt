@@ -14,9 +14,9 @@ use Rattle.rules.specs.Decks.{open_deck}
 use Rattle.rules.specs.Goals.{Marked, unmarked, write_goals, words_of, marked_words}
 use Rattle.rules.specs.WellFormed.{WfGoal, WfMarked}
 use Rattle.rules.specs.Stored.{OpenGoals, read_open}
-use Rattle.rules.specs.Evaluation.{evaluate}
-use Rattle.rules.specs.Run.{Carried, check_sizes, carry, carry_on, carry_from, RanOn}
-use Rattle.rules.proofs.ListLaws.{all-weaken}
+use Rattle.rules.specs.Rights.{check_rights}
+use Rattle.rules.specs.Run.{Carried, run_from, check_sizes, carry, carry_on, carry_from, RanOn}
+use Rattle.rules.proofs.ListLaws.{all-weaken, all_append, unmarked-all}
 use Rattle.rules.proofs.GoalLaws.{goals-length, marked_words-append, unmarked-words}
 use Rattle.rules.proofs.StoredLaws.{Fits, ParkedFits, open-reads}
 use Rattle.rules.proofs.Carried.{carry-parts}
@@ -26,11 +26,20 @@ use Rattle.deck.specs.declared.Refusal.TheVariants as why
 use Rattle.std.specs.Prelude.{Option, Some, None, Result, Ok, Err}
 use Rattle.std.specs.Option.{ok_or}
 use Rattle.stored.specs.Passing.{OpenFound}
+use Rattle.rights.specs.Reached.{AreGoals}
 use Rattle.report.specs.declared.Report.{Report}
 use Rattle.top_level.specs.Top.{InOrder, Topped}
 use Rattle.evaluation.specs.Results.{check_goals, result_of, slices, OpenAs, CarriedAs}
 use Rattle.deck.proofs.RefusalLaws.{number-accepts, number-refuses}
-use Rattle.evaluation.proofs.RunLaws.{passes, sizes-are, gives-refused, gives-accepted}
+use Rattle.evaluation.proofs.RunLaws.{passes, sizes-are, from-refused, from-accepted, gives-refused, gives-accepted}
+
+-- Words open as one deck.
+pub one-deck : (ws : List ℕ) (d e : Deck) → open_deck ws ≡ accepted d → open_deck ws ≡ accepted e → d ≡ e
+one-deck ws d e p q = let z : accepted d ≡ accepted e = sym p ∙ q in cc
+
+-- The words of goals in order.
+pub goals-are : {S : List Symbol} {store : List ℕ} {held end : ℕ} {gs : List Goal} {ms : List Marked} → InOrder S store held end gs ms → AreGoals S (take end store) (unmarked gs ++ ms)
+goals-are {S} {gs = gs} {ms} o = record { formed = all_append (WfMarked S) (unmarked gs) ms (unmarked-all (WfGoal S) gs o.pending_formed) o.parked_formed; written = o.begins }
 
 -- CHECKS 12 AND 13
 pub in_order_lem : (S : List Symbol) (store : List ℕ) (n k terms held end : ℕ) (o : OpenGoals) → read_open S n k terms store ≡ some o
@@ -109,12 +118,12 @@ module _ (deck_words : List ℕ) (n k terms : ℕ) (store scratch : List ℕ) wh
   abbrev lets : Checked Carried
   lets = carry deck_words n k terms store (length scratch)
 
-  pub ran-on-refused : (budget : ℕ) (answers : List ℕ) (w : Refusal) → lets ≡ refused (refusal_for w)
-      → RanOn deck_words n k terms budget (slices answers store scratch) (result_of (Err w)) (slices answers store scratch)
+  pub ran-on-refused : (bars : List ℕ) (budget : ℕ) (answers : List ℕ) (w : Refusal) → lets ≡ refused (refusal_for w)
+      → RanOn deck_words n k terms bars budget (slices answers store scratch) (result_of (Err w)) (slices answers store scratch)
   unfolding carry_from carry_on and_then
-  ran-on-refused budget answers w e =
-      let c : carry_from deck_words n k terms budget (slices answers store scratch) ≡ refused (refusal_for w) = rw e in
-      gives-refused (carry_from deck_words n k terms budget (slices answers store scratch)) (slices answers store scratch) w c
+  ran-on-refused bars budget answers w e =
+      let c : carry_from deck_words n k terms bars budget (slices answers store scratch) ≡ refused (refusal_for w) = rw e in
+      gives-refused (carry_from deck_words n k terms bars budget (slices answers store scratch)) (slices answers store scratch) w c
 
   module _ (p : ℕ × ℕ) (h : CarriedAs lets store (Ok p)) where
     pub carried-sizes : (8192 ≤ length scratch) × (length store ≤ 65535)
@@ -128,15 +137,29 @@ module _ (deck_words : List ℕ) (n k terms : ℕ) (store scratch : List ℕ) wh
     pub carried-opens : open_deck deck_words ≡ accepted h.0.deck
     carried-opens = (carry-parts deck_words n k terms store (length scratch) h.0 h.1).0
 
-    pub ran-on-accepted : (budget : ℕ) (answers answers' store' scratch' : List ℕ) (r : Report) → length store' ≡ length store → length scratch' ≡ length scratch
-        → ((d : Deck) (gs : List Goal) (ms : List Marked) → open_deck deck_words ≡ accepted d → InOrder d.symbols store p.0 p.1 gs ms → Topped d answers store gs ms budget answers' store' r)
-        → RanOn deck_words n k terms budget (slices answers store scratch) (result_of (Ok r)) (slices answers' store' scratch')
-    unfolding carry_from carry_on and_then
-    ran-on-accepted budget answers answers' store' scratch' r same rest topped =
-        let x = h.0 in
-        let gs = x.goals.pending in
-        let ms = x.goals.parked in
-        let e = h.1 in
-        let c : carry_from deck_words n k terms budget (slices answers store scratch) ≡ accepted (evaluate x.deck (length answers) (length store) gs ms budget) = rw e in
-        gives-accepted x.deck gs ms budget answers store scratch answers' store' scratch' r (carry_from deck_words n k terms budget (slices answers store scratch)) c same rest
-        (topped x.deck gs ms carried-opens h.2)
+    -- The words of the goals, for the checks of a member's rights.
+    pub carried-goals : AreGoals h.0.deck.symbols (take p.1 store) (unmarked h.0.goals.pending ++ h.0.goals.parked)
+    carried-goals = goals-are h.2
+
+    module _ (bars : List ℕ) (budget : ℕ) (answers : List ℕ) where
+      from-next : carry_from deck_words n k terms bars budget (slices answers store scratch) ≡ run_from h.0.deck bars h.0.goals.pending h.0.goals.parked budget (length answers) (length store)
+      unfolding carry_from carry_on and_then
+      from-next = let e = h.1 in rw e
+
+      -- 15 and 16.
+      pub ran-on-barred : (w : Refusal) → number_of (Err w) ≡ checked_number (check_rights h.0.deck bars (unmarked h.0.goals.pending ++ h.0.goals.parked))
+          → RanOn deck_words n k terms bars budget (slices answers store scratch) (result_of (Err w)) (slices answers store scratch)
+      ran-on-barred w e =
+          gives-refused (carry_from deck_words n k terms bars budget (slices answers store scratch)) (slices answers store scratch) w
+          (from-next ∙ from-refused h.0.deck bars h.0.goals.pending h.0.goals.parked budget (length answers) (length store) w e)
+
+      pub ran-on-accepted : 0 ≡ checked_number (check_rights h.0.deck bars (unmarked h.0.goals.pending ++ h.0.goals.parked))
+          → (answers' store' scratch' : List ℕ) (r : Report) → length store' ≡ length store → length scratch' ≡ length scratch
+          → ((d : Deck) (gs : List Goal) (ms : List Marked) → open_deck deck_words ≡ accepted d → InOrder d.symbols store p.0 p.1 gs ms → Topped d answers store gs ms budget answers' store' r)
+          → RanOn deck_words n k terms bars budget (slices answers store scratch) (result_of (Ok r)) (slices answers' store' scratch')
+      ran-on-accepted e answers' store' scratch' r same rest topped =
+          let x = h.0 in
+          let gs = x.goals.pending in
+          let ms = x.goals.parked in
+          gives-accepted x.deck gs ms budget answers store scratch answers' store' scratch' r (carry_from deck_words n k terms bars budget (slices answers store scratch))
+          (from-next ∙ from-accepted x.deck bars gs ms budget (length answers) (length store) e) same rest (topped x.deck gs ms carried-opens h.2)

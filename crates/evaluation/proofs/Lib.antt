@@ -4,3 +4,4 @@ pub mod PublicRun
 pub mod PublicTight
 pub mod PublicCarry
 pub mod PublicRanks
+pub mod PublicRights

@@ -29,38 +29,38 @@ use Rattle.evaluation.proofs.carry.carry_on.Reads.{Post}
 use Rattle.evaluation.proofs.PublicRun.{left_in, public-demand-3, public-valued, public-known}
 
 -- The words of the slices that were lent, and as the run leaves them.
-abbrev pub lent_on : (κs : Lfts 4) → ArgsD signature κs → Slices
-lent_on κs entry = slices entry.1.1.1.1.1.0.now entry.1.1.1.1.1.1.0.now entry.1.1.1.1.1.1.1.0.now
+abbrev pub lent_on : (κs : Lfts 5) → ArgsD signature κs → Slices
+lent_on κs entry = slices entry.1.1.1.1.1.1.0.now entry.1.1.1.1.1.1.1.0.now entry.1.1.1.1.1.1.1.1.0.now
 
-abbrev pub left_on : (κs : Lfts 4) → AtExit ended κs → Slices
-left_on κs exit = slices exit.1.1.1.1.1.0.now exit.1.1.1.1.1.1.0.now exit.1.1.1.1.1.1.1.0.now
+abbrev pub left_on : (κs : Lfts 5) → AtExit ended κs → Slices
+left_on κs exit = slices exit.1.1.1.1.1.1.0.now exit.1.1.1.1.1.1.1.0.now exit.1.1.1.1.1.1.1.1.0.now
 
-module _ (κs : Lfts 4) (entry : ArgsD signature κs) (exit : AtExit ended κs) (r : Report) (post : Post κs entry (Ok r) exit) where
+module _ (κs : Lfts 5) (entry : ArgsD signature κs) (exit : AtExit ended κs) (r : Report) (post : Post κs entry (Ok r) exit) where
   -- Such a statement of this run.
   abbrev pub SaidHere : (Deck → List Marked → List Marked → Type 1) → Type 1
   SaidHere Statement = SaidOn Statement entry.0.now entry.1.0 entry.1.1.0 entry.1.1.1.0 (lent_on κs entry) (report_of r) (left_on κs exit)
 
   -- DEMAND 3, with the goals that the store began with in place of the query
   pub public-demand-on : SaidHere CoveredFrom
-  public-demand-on = demand-on entry.0.now entry.1.0 entry.1.1.0 entry.1.1.1.0 entry.1.1.1.1.0 (lent_on κs entry) (left_on κs exit) (report_of r) post
+  public-demand-on = demand-on entry.0.now entry.1.0 entry.1.1.0 entry.1.1.1.0 entry.1.1.1.1.0.now entry.1.1.1.1.1.0 (lent_on κs entry) (left_on κs exit) (report_of r) post
 
   -- IN THREE VALUES: by excluded middle, and what needs none.
   pub public-on-valued : ExcludedMiddle → SaidHere ValuedFrom
-  public-on-valued em = demand-on-valued entry.0.now entry.1.0 entry.1.1.0 entry.1.1.1.0 entry.1.1.1.1.0 (lent_on κs entry) (left_on κs exit) (report_of r) post em
+  public-on-valued em = demand-on-valued entry.0.now entry.1.0 entry.1.1.0 entry.1.1.1.0 entry.1.1.1.1.0.now entry.1.1.1.1.1.0 (lent_on κs entry) (left_on κs exit) (report_of r) post em
 
   pub public-on-known : SaidHere KnownFrom
-  public-on-known = demand-on-known entry.0.now entry.1.0 entry.1.1.0 entry.1.1.1.0 entry.1.1.1.1.0 (lent_on κs entry) (left_on κs exit) (report_of r) post
+  public-on-known = demand-on-known entry.0.now entry.1.0 entry.1.1.0 entry.1.1.1.0 entry.1.1.1.1.0.now entry.1.1.1.1.1.0 (lent_on κs entry) (left_on κs exit) (report_of r) post
 
   -- THE NEXT RUN is let carry on: with the counts that are returned and as many answer terms, over any store of an allowed size that begins with these goals.
   pub public-carries-on : CarriesOn entry.0.now entry.1.1.1.0 (report_of r) (left_on κs exit)
-  public-carries-on = carries-on entry.0.now entry.1.0 entry.1.1.0 entry.1.1.1.0 entry.1.1.1.1.0 (lent_on κs entry) (left_on κs exit) (report_of r) post
+  public-carries-on = carries-on entry.0.now entry.1.0 entry.1.1.0 entry.1.1.1.0 entry.1.1.1.1.0.now entry.1.1.1.1.1.0 (lent_on κs entry) (left_on κs exit) (report_of r) post
 
   -- No more steps than their cost, and a cost of at most the budget; so no more steps than the budget.
-  pub public-on-spends : (r.steps ≤ r.cost) × (r.cost ≤ entry.1.1.1.1.0)
-  public-on-spends = on-spends entry.0.now entry.1.0 entry.1.1.0 entry.1.1.1.0 entry.1.1.1.1.0 (lent_on κs entry) (left_on κs exit) (report_of r) post
+  pub public-on-spends : (r.steps ≤ r.cost) × (r.cost ≤ entry.1.1.1.1.1.0)
+  public-on-spends = on-spends entry.0.now entry.1.0 entry.1.1.0 entry.1.1.1.0 entry.1.1.1.1.0.now entry.1.1.1.1.1.0 (lent_on κs entry) (left_on κs exit) (report_of r) post
 
-  pub public-on-steps-within : r.steps ≤ entry.1.1.1.1.0
-  public-on-steps-within = on-within entry.0.now entry.1.0 entry.1.1.0 entry.1.1.1.0 entry.1.1.1.1.0 (lent_on κs entry) (left_on κs exit) (report_of r) post
+  pub public-on-steps-within : r.steps ≤ entry.1.1.1.1.1.0
+  public-on-steps-within = on-within entry.0.now entry.1.0 entry.1.1.0 entry.1.1.1.0 entry.1.1.1.1.0.now entry.1.1.1.1.1.0 (lent_on κs entry) (left_on κs exit) (report_of r) post
 
   -- Runs continued from this one; the answers of all of the later ones, and the goals open after the last.
   module _ (symbols : List Symbol) {later left_open : List Marked}
@@ -70,7 +70,7 @@ module _ (κs : Lfts 4) (entry : ArgsD signature κs) (exit : AtExit ended κs) 
         → read_goals symbols (entry.1.0 + entry.1.1.0) (lent_on κs entry).store ≡ read_goals symbols (entry.1.0 + entry.1.1.0) store_words
         → read_goals symbols r.answers (left_on κs exit).answers ≡ some listed
         → CarriedOn entry.0.now symbols entry.1.1.1.0 entry.1.0 entry.1.1.0 store_words (listed ++ later) left_open
-    public-goes-on w answers = goes_on entry.1.1.1.1.0 {exit = left_on κs exit} {r = report_of r} w post answers rest
+    public-goes-on w answers = goes_on entry.1.1.1.1.0.now entry.1.1.1.1.1.0 {exit = left_on κs exit} {r = report_of r} w post answers rest
 
   -- A STORE FILLED BY HAND: one of its goals covers a choice exactly when an answer of this run or of a later one does, or a goal open after the last.
   pub public-carried : {later left_open : List Marked}
@@ -83,13 +83,13 @@ module _ (κs : Lfts 4) (entry : ArgsD signature κs) (exit : AtExit ended κs) 
       (open-list S entry.1.0 entry.1.1.0 entry.1.1.1.0 (lent_on κs entry).store d.before (open-reads S entry.1.0 entry.1.1.0 entry.1.1.1.0 (lent_on κs entry).store d.before d.carries))
 
 -- AFTER A FRESH RUN
-module _ (κs : Lfts 5) (entry : ArgsD fresh.signature κs) (exit : AtExit fresh.ended κs) (r : Report) (post : fresh-reads.Post κs entry (Ok r) exit) where
+module _ (κs : Lfts 6) (entry : ArgsD fresh.signature κs) (exit : AtExit fresh.ended κs) (r : Report) (post : fresh-reads.Post κs entry (Ok r) exit) where
   -- The first one is let carry on, with as many answer terms as the query has variables.
   pub public-fresh-carries : (deck : Deck) × (query : List Literal) × (open_deck entry.0.now ≡ accepted deck) × (read_query deck entry.1.0.now ≡ accepted query)
       × CarriesOn entry.0.now (length (query_variables query)) (report_of r) (left_in κs exit)
   public-fresh-carries =
-      fresh-carries entry.0.now entry.1.0.now entry.1.1.0
-      (slices entry.1.1.1.0.now entry.1.1.1.1.0.now entry.1.1.1.1.1.0.now) (left_in κs exit) (report_of r) post
+      fresh-carries entry.0.now entry.1.0.now entry.1.1.0.now entry.1.1.1.0
+      (slices entry.1.1.1.1.0.now entry.1.1.1.1.1.0.now entry.1.1.1.1.1.1.0.now) (left_in κs exit) (report_of r) post
 
   -- The query holds of a choice exactly when an answer of any of the runs, or a goal open after the last, covers it; and the same in three values.
   module _ (terms : ℕ) (later left_open : List Marked) where

@@ -19,12 +19,12 @@ use Rattle.evaluation.specs.contracts.run.{signature, ended}
 use Rattle.evaluation.proofs.run.Reads.{Post}
 use Rattle.evaluation.proofs.PublicRun.{left_in}
 
-module _ (κs : Lfts 5) (entry : ArgsD signature κs) (exit : AtExit ended κs) (r : Report) (post : Post κs entry (Ok r) exit) where
+module _ (κs : Lfts 6) (entry : ArgsD signature κs) (exit : AtExit ended κs) (r : Report) (post : Post κs entry (Ok r) exit) where
   -- The words of the slices that were lent.
   abbrev lent : Slices
-  lent = slices entry.1.1.1.0.now entry.1.1.1.1.0.now entry.1.1.1.1.1.0.now
+  lent = slices entry.1.1.1.1.0.now entry.1.1.1.1.1.0.now entry.1.1.1.1.1.1.0.now
 
   -- NO DEEPER LEVEL, whatever levels the call gives for the deck.
   pub public-bounded : (old levels : List ℕ) → Levelled entry.0.now old (accepted given) levels
-      → Bounded entry.0.now entry.1.0.now entry.1.1.0 (length lent.answers) (length lent.store) (report_of r) levels
-  public-bounded = ran-bounded entry.0.now entry.1.0.now entry.1.1.0 lent (left_in κs exit) (report_of r) post
+      → Bounded entry.0.now entry.1.0.now entry.1.1.1.0 (length lent.answers) (length lent.store) (report_of r) levels
+  public-bounded = ran-bounded entry.0.now entry.1.0.now entry.1.1.0.now entry.1.1.1.0 lent (left_in κs exit) (report_of r) post

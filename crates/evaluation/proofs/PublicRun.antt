@@ -23,24 +23,24 @@ use Rattle.evaluation.specs.contracts.run.{signature, ended}
 use Rattle.evaluation.proofs.run.Reads.{Post}
 
 -- The words of the slices that were lent, as the run leaves them.
-abbrev pub left_in : (κs : Lfts 5) → AtExit ended κs → Slices
-left_in κs exit = slices exit.1.1.1.0.now exit.1.1.1.1.0.now exit.1.1.1.1.1.0.now
+abbrev pub left_in : (κs : Lfts 6) → AtExit ended κs → Slices
+left_in κs exit = slices exit.1.1.1.1.0.now exit.1.1.1.1.1.0.now exit.1.1.1.1.1.1.0.now
 
-module _ (κs : Lfts 5) (entry : ArgsD signature κs) (exit : AtExit ended κs) (r : Report) (post : Post κs entry (Ok r) exit) where
+module _ (κs : Lfts 6) (entry : ArgsD signature κs) (exit : AtExit ended κs) (r : Report) (post : Post κs entry (Ok r) exit) where
   -- No more steps than their cost, and a cost of at most the budget; so no more steps than the budget.
-  pub public-spends : (r.steps ≤ r.cost) × (r.cost ≤ entry.1.1.0)
+  pub public-spends : (r.steps ≤ r.cost) × (r.cost ≤ entry.1.1.1.0)
   public-spends =
-      ran-spends entry.0.now entry.1.0.now entry.1.1.0
-      (slices entry.1.1.1.0.now entry.1.1.1.1.0.now entry.1.1.1.1.1.0.now) (left_in κs exit) (report_of r) post
+      ran-spends entry.0.now entry.1.0.now entry.1.1.0.now entry.1.1.1.0
+      (slices entry.1.1.1.1.0.now entry.1.1.1.1.1.0.now entry.1.1.1.1.1.1.0.now) (left_in κs exit) (report_of r) post
 
-  pub public-steps-within : r.steps ≤ entry.1.1.0
+  pub public-steps-within : r.steps ≤ entry.1.1.1.0
   public-steps-within = omega (arith, public-spends)
 
   -- DEMAND 3 OF THE PUBLIC RUN
   pub public-demand-3 : Demand3 entry.0.now entry.1.0.now (report_of r) (left_in κs exit)
   public-demand-3 =
-      demand-3 entry.0.now entry.1.0.now entry.1.1.0
-      (slices entry.1.1.1.0.now entry.1.1.1.1.0.now entry.1.1.1.1.1.0.now) (left_in κs exit) (report_of r) post
+      demand-3 entry.0.now entry.1.0.now entry.1.1.0.now entry.1.1.1.0
+      (slices entry.1.1.1.1.0.now entry.1.1.1.1.1.0.now entry.1.1.1.1.1.1.0.now) (left_in κs exit) (report_of r) post
 
   -- Where nothing is left open, the query holds exactly for the choices that a listed answer covers;
   pub public-all-listed : r.pending + r.parked ≡ 0 → (I : Interpretation) → Satisfies I public-demand-3.deck
@@ -56,13 +56,13 @@ module _ (κs : Lfts 5) (entry : ArgsD signature κs) (exit : AtExit ended κs) 
   -- IN THREE VALUES: the query's value is the highest that an answer or an open goal gives, by excluded middle; and what needs none.
   pub public-valued : ExcludedMiddle → Said Valued entry.0.now entry.1.0.now (report_of r) (left_in κs exit)
   public-valued em =
-      demand-3-valued em entry.0.now entry.1.0.now entry.1.1.0
-      (slices entry.1.1.1.0.now entry.1.1.1.1.0.now entry.1.1.1.1.1.0.now) (left_in κs exit) (report_of r) post
+      demand-3-valued em entry.0.now entry.1.0.now entry.1.1.0.now entry.1.1.1.0
+      (slices entry.1.1.1.1.0.now entry.1.1.1.1.1.0.now entry.1.1.1.1.1.1.0.now) (left_in κs exit) (report_of r) post
 
   pub public-known : Said Known entry.0.now entry.1.0.now (report_of r) (left_in κs exit)
   public-known =
-      demand-3-known entry.0.now entry.1.0.now entry.1.1.0
-      (slices entry.1.1.1.0.now entry.1.1.1.1.0.now entry.1.1.1.1.1.0.now) (left_in κs exit) (report_of r) post
+      demand-3-known entry.0.now entry.1.0.now entry.1.1.0.now entry.1.1.1.0
+      (slices entry.1.1.1.1.0.now entry.1.1.1.1.1.0.now entry.1.1.1.1.1.1.0.now) (left_in κs exit) (report_of r) post
 
   -- Where nothing is left open, the listed answers give the query's value; and where nothing is listed either, it is false.
   module _ (em : ExcludedMiddle) where

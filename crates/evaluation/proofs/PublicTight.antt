@@ -27,23 +27,23 @@ use Rattle.evaluation.specs.contracts.run.{signature, ended}
 use Rattle.evaluation.proofs.run.Reads.{Post}
 use Rattle.evaluation.proofs.PublicRun.{left_in}
 
-module _ (κs : Lfts 5) (entry : ArgsD signature κs) (exit : AtExit ended κs) (r : Report) (post : Post κs entry (Ok r) exit) where
+module _ (κs : Lfts 6) (entry : ArgsD signature κs) (exit : AtExit ended κs) (r : Report) (post : Post κs entry (Ok r) exit) where
   -- The words of the slices that were lent.
   abbrev lent : Slices
-  lent = slices entry.1.1.1.0.now entry.1.1.1.1.0.now entry.1.1.1.1.1.0.now
+  lent = slices entry.1.1.1.1.0.now entry.1.1.1.1.1.0.now entry.1.1.1.1.1.1.0.now
 
   -- NEVER MARK 1, on any level: whatever level the run passes, of the deck that was opened and the query that was read.
   pub public-never-flounders : (deck : Deck) → open_deck entry.0.now ≡ accepted deck → (query : List Literal) → read_query deck entry.1.0.now ≡ accepted query
-      → (below : ℕ) (at : Place) (l : Level) (a : Account) → FreshPasses deck (length lent.answers) (length lent.store) query entry.1.1.0 below at l a
+      → (below : ℕ) (at : Place) (l : Level) (a : Account) → FreshPasses deck (length lent.answers) (length lent.store) query entry.1.1.1.0 below at l a
       → All Unfloundered l.parked
-  public-never-flounders = ran-never-flounders entry.0.now entry.1.0.now entry.1.1.0 lent (left_in κs exit) (report_of r) post
+  public-never-flounders = ran-never-flounders entry.0.now entry.1.0.now entry.1.1.0.now entry.1.1.1.0 lent (left_in κs exit) (report_of r) post
 
   -- Nor has any goal that is read at the start of the store, as many as are returned.
   pub public-unfloundered : (deck : Deck) → open_deck entry.0.now ≡ accepted deck
       → (left_open : List Marked) → read_goals deck.symbols (r.pending + r.parked) (left_in κs exit).store ≡ some left_open → All Unfloundered left_open
-  public-unfloundered = ran-unfloundered entry.0.now entry.1.0.now entry.1.1.0 lent (left_in κs exit) (report_of r) post
+  public-unfloundered = ran-unfloundered entry.0.now entry.1.0.now entry.1.1.0.now entry.1.1.1.0 lent (left_in κs exit) (report_of r) post
 
   -- NO ANSWER HAS A VARIABLE: whatever goals are read at the start of the answer list, as many as are returned.
   pub public-closed : (deck : Deck) → open_deck entry.0.now ≡ accepted deck
       → (listed : List Marked) → read_goals deck.symbols r.answers (left_in κs exit).answers ≡ some listed → All (λ m. Closed m.goal) listed
-  public-closed = ran-closed entry.0.now entry.1.0.now entry.1.1.0 lent (left_in κs exit) (report_of r) post
+  public-closed = ran-closed entry.0.now entry.1.0.now entry.1.1.0.now entry.1.1.1.0 lent (left_in κs exit) (report_of r) post

@@ -14,10 +14,10 @@ use Rattle.rules.specs.Loose.{check_tight_query}
 use Rattle.rules.specs.Goals.{unmarked, write_goals, words_of, first_goal}
 use Rattle.rules.specs.Evaluation as rules
 use Rattle.rules.specs.Evaluation.{Outcome, evaluate, evaluate_level, zeroth, outcome, stop_of}
-use Rattle.rules.specs.Run.{run, check_sizes, report, returned, answers_after, store_start, Slices, Leaves, Gives, run_on, Ran}
+use Rattle.rules.specs.Rights.{check_rights}
+use Rattle.rules.specs.Run.{run_from, run, check_sizes, report, returned, answers_after, store_start, Slices, Leaves, Gives}
 use Rattle.rules.proofs.GoalLaws.{goals-length, unmarked-words}
 use Rattle.rules.proofs.DeckLaws.{steps-open, query-reads}
-use Rattle.rules.proofs.Demand3.{Accepted, run-accepted}
 use Rattle.deck.specs.declared.Refusal as declared
 use Rattle.std.specs.Prelude.{Ok, Err}
 use Rattle.std.specs.Ordering.{nat_cmp, is_le}
@@ -29,7 +29,7 @@ use Rattle.report.specs.declared.Report.{Report}
 use Rattle.top_level.specs.Top.{Queries, opening, Topped}
 use Rattle.rules.specs.Goals.{Marked}
 use Rattle.rules.specs.Syntax.{Goal}
-use Rattle.evaluation.specs.Results.{check_sized, result_of, slices}
+use Rattle.evaluation.specs.Results.{check_sized, Asked, check_fresh, result_of, slices}
 
 -- CHECKS ONE AFTER THE OTHER
 module _ {A B : Type 0} where
@@ -89,7 +89,10 @@ module _ (store_size scratch_size : ℕ) where
       let b = (and-eq-true_iff (leb 1024 store_size) (leb store_size 65535)).0 (required bad_store (leb 1024 store_size && leb store_size 65535) s.0 s.1) in
       (leb-true 1024 store_size b.0, leb-true store_size 65535 b.1, leb-true 8192 scratch_size (required bad_scratch (leb 8192 scratch_size) u s.2))
 
-module _ (deck_words query_words : List ℕ) (total answer_room store_size scratch_size : ℕ) where
+abbrev asked : Deck → List Literal → Asked
+asked d q = record { deck = d; query = q }
+
+module _ (deck_words query_words : List ℕ) (store_size scratch_size : ℕ) where
   pub sized-refused : (why : declared.Refusal) → number_of (Err why) ≡ checked_number (check_words deck_words query_words)
       → number_of (Err why) ≡ checked_number (check_sized deck_words query_words store_size scratch_size)
   unfolding check_sized
@@ -99,24 +102,24 @@ module _ (deck_words query_words : List ℕ) (total answer_room store_size scrat
   unfolding check_sized
   sized-next = then-next (check_words deck_words query_words) (check_sizes store_size scratch_size)
 
-  -- What refusals 1 to 9 refuse, the run refuses.
-  pub run-refused : (why : declared.Refusal) → number_of (Err why) ≡ checked_number (check_sized deck_words query_words store_size scratch_size)
-      → number_of (Err why) ≡ checked_number (run deck_words query_words total answer_room store_size scratch_size)
-  unfolding run check_sized check_words and_then
-  run-refused why = deck (open_deck deck_words)
+  -- What refusals 1 to 9 refuse, the checks of a fresh run refuse.
+  pub fresh-refused : (why : declared.Refusal) → number_of (Err why) ≡ checked_number (check_sized deck_words query_words store_size scratch_size)
+      → number_of (Err why) ≡ checked_number (check_fresh deck_words query_words store_size scratch_size)
+  unfolding check_fresh check_sized check_words and_then
+  fresh-refused why = deck (open_deck deck_words)
     where
-      size : (s : Checked (Unit {0})) (next : Unit {0} → Checked Outcome) → number_of (Err why) ≡ checked_number s → number_of (Err why) ≡ checked_number (and_then s next)
+      size : (s : Checked (Unit {0})) (next : Unit {0} → Checked Asked) → number_of (Err why) ≡ checked_number s → number_of (Err why) ≡ checked_number (and_then s next)
       size (refused n) next e = e
       size (accepted u) next e = absurd (refused-number why e)
 
-      query : (q : Checked (List Literal)) (next : List Literal → Unit {0} → Checked Outcome) → number_of (Err why) ≡ checked_number (and_then q (λ _. check_sizes store_size scratch_size))
+      query : (q : Checked (List Literal)) (next : List Literal → Unit {0} → Checked Asked) → number_of (Err why) ≡ checked_number (and_then q (λ _. check_sizes store_size scratch_size))
           → number_of (Err why) ≡ checked_number (and_then q (λ l. and_then (check_sizes store_size scratch_size) (next l)))
       query (refused n) next e = e
       query (accepted l) next e = size (check_sizes store_size scratch_size) (next l) e
 
       deck : (o : Checked Deck) → number_of (Err why) ≡ checked_number (and_then (and_then o (λ d. read_query d query_words)) (λ _. check_sizes store_size scratch_size))
           → number_of (Err why) ≡ checked_number (and_then o (λ d. and_then (read_query d query_words) (λ q. and_then (check_sizes store_size scratch_size)
-          (λ _. and_then (check_tight_query d q) (λ _. accepted (evaluate d answer_room store_size (first_goal q ∷ []) [] total))))))
+          (λ _. and_then (check_tight_query d q) (λ _. accepted (asked d q))))))
       deck (refused n) e = e
       deck (accepted d) e = query (read_query d query_words) _ e
 
@@ -126,11 +129,11 @@ module _ (deck_words query_words : List ℕ) (total answer_room store_size scrat
     pub query : List Literal
     pub opens : open_deck deck_words ≡ accepted deck
     pub asks : read_query deck query_words ≡ accepted query
-    pub runs : checked_number (check_tight_query deck query) ≡ checked_number (run deck_words query_words total answer_room store_size scratch_size)
+    pub runs : checked_number (check_tight_query deck query) ≡ checked_number (check_fresh deck_words query_words store_size scratch_size)
 
   last-checks : (d : Deck) (q : List Literal) (u : Unit {0}) → open_deck deck_words ≡ accepted d → read_query d query_words ≡ accepted q → check_sizes store_size scratch_size ≡ accepted u
-      → checked_number (check_tight_query d q) ≡ checked_number (run deck_words query_words total answer_room store_size scratch_size)
-  unfolding run and_then
+      → checked_number (check_tight_query d q) ≡ checked_number (check_fresh deck_words query_words store_size scratch_size)
+  unfolding check_fresh and_then
   last-checks d q u o a s = rw (o, a, s) (last-number (check_tight_query d q) _)
 
   pub run-sized : 0 ≡ checked_number (check_sized deck_words query_words store_size scratch_size) → Sized
@@ -147,46 +150,100 @@ module _ (deck_words query_words : List ℕ) (total answer_room store_size scrat
         runs = last-checks d.0 w.0 r.0 d.1 d.2 w.2;
       }
 
-  -- AN ACCEPTED RUN: what it evaluates, and the sizes.
-  pub record Accepts : Type 0 where
-    pub outcome' : Outcome
-    pub runs : run deck_words query_words total answer_room store_size scratch_size ≡ accepted outcome'
-    pub is : Accepted deck_words query_words total answer_room store_size outcome'
+  -- What all of them let through.
+  pub record Fresh : Type 0 where
+    pub deck : Deck
+    pub query : List Literal
+    pub opens : open_deck deck_words ≡ accepted deck
+    pub asks : read_query deck query_words ≡ accepted query
+    pub passes_all : check_fresh deck_words query_words store_size scratch_size ≡ accepted (record { deck = deck; query = query })
     pub least : 1024 ≤ store_size
     pub most : store_size ≤ 65535
     pub scratch : 8192 ≤ scratch_size
 
-  pub run-accepts : 0 ≡ checked_number (run deck_words query_words total answer_room store_size scratch_size) → Accepts
-  unfolding run
-  run-accepts z =
-      let r = number-accepts (run deck_words query_words total answer_room store_size scratch_size) z in
+  pub fresh-passes : 0 ≡ checked_number (check_fresh deck_words query_words store_size scratch_size) → Fresh
+  unfolding check_fresh
+  fresh-passes z =
+      let r = number-accepts (check_fresh deck_words query_words store_size scratch_size) z in
       let d = passes (open_deck deck_words) _ r.0 r.1 in
       let q = passes (read_query d.0 query_words) _ r.0 d.2 in
       let s = passes (check_sizes store_size scratch_size) _ r.0 q.2 in
+      let t = passes (check_tight_query d.0 q.0) _ r.0 s.2 in
       let sizes = sizes-are store_size scratch_size s.0 s.1 in
       record {
-        outcome' = r.0;
-        runs = r.1;
-        is = run-accepted deck_words query_words total answer_room store_size scratch_size r.0 r.1;
+        deck = d.0;
+        query = q.0;
+        opens = d.1;
+        asks = q.1;
+        passes_all = r.1 ∙ sym t.2;
         least = sizes.0;
         most = sizes.1;
         scratch = sizes.2;
       }
 
-pub accepted-query : {deck_words query_words : List ℕ} {total answer_room store_size : ℕ} {o : Outcome} (a : Accepted deck_words query_words total answer_room store_size o)
-    → Queries (symbol_words deck_words) query_words a.deck.symbols a.query
-accepted-query {deck_words} {query_words} a =
-    let q = query-reads a.deck query_words a.query a.asks in
-    record { symbols = (steps-open deck_words a.deck a.opens).symbols; well_formed = q.1; are = q.0 }
+  pub asked-query : (f : Fresh) → Queries (symbol_words deck_words) query_words f.deck.symbols f.query
+  asked-query f =
+      let q = query-reads f.deck query_words f.query f.asks in
+      record { symbols = (steps-open deck_words f.deck f.opens).symbols; well_formed = q.1; are = q.0 }
+
+-- A MEMBER'S RIGHTS, the last checks of every run.
+module _ (d : Deck) (bars : List ℕ) (gs : List Goal) (ms : List Marked) (total answer_room store_size : ℕ) where
+  pub from-refused : (why : declared.Refusal) → number_of (Err why) ≡ checked_number (check_rights d bars (unmarked gs ++ ms))
+      → run_from d bars gs ms total answer_room store_size ≡ refused (refusal_for why)
+  unfolding run_from and_then
+  from-refused why e = let r = number-refuses why (check_rights d bars (unmarked gs ++ ms)) e in rw r
+
+  pub from-accepted : 0 ≡ checked_number (check_rights d bars (unmarked gs ++ ms))
+      → run_from d bars gs ms total answer_room store_size ≡ accepted (evaluate d answer_room store_size gs ms total)
+  unfolding run_from and_then
+  from-accepted e = let r = number-accepts (check_rights d bars (unmarked gs ++ ms)) e in rw r.1
+
+-- A fresh run is its other checks, and then the run from the first goal.
+module _ (deck_words query_words bars : List ℕ) (total answer_room store_size scratch_size : ℕ) where
+  abbrev next_of : Asked → Checked Outcome
+  next_of a = run_from a.deck bars (first_goal a.query ∷ []) [] total answer_room store_size
+
+  run-then : run deck_words query_words bars total answer_room store_size scratch_size ≡ and_then (check_fresh deck_words query_words store_size scratch_size) next_of
+  unfolding run check_fresh and_then
+  run-then = deck (open_deck deck_words)
+    where
+      tight : (t : Checked (Unit {0})) (d : Deck) (q : List Literal)
+          → and_then t (λ _. run_from d bars (first_goal q ∷ []) [] total answer_room store_size) ≡ and_then (and_then t (λ _. accepted (asked d q))) next_of
+      tight (refused n) d q = refl
+      tight (accepted u) d q = refl
+
+      size : (s : Checked (Unit {0})) (d : Deck) (q : List Literal)
+          → and_then s (λ _. and_then (check_tight_query d q) (λ _. run_from d bars (first_goal q ∷ []) [] total answer_room store_size))
+          ≡ and_then (and_then s (λ _. and_then (check_tight_query d q) (λ _. accepted (asked d q)))) next_of
+      size (refused n) d q = refl
+      size (accepted u) d q = tight (check_tight_query d q) d q
+
+      query : (c : Checked (List Literal)) (d : Deck)
+          → and_then c (λ q. and_then (check_sizes store_size scratch_size) (λ _. and_then (check_tight_query d q) (λ _. run_from d bars (first_goal q ∷ []) [] total answer_room store_size)))
+          ≡ and_then (and_then c (λ q. and_then (check_sizes store_size scratch_size) (λ _. and_then (check_tight_query d q) (λ _. accepted (asked d q))))) next_of
+      query (refused n) d = refl
+      query (accepted q) d = size (check_sizes store_size scratch_size) d q
+
+      deck : (o : Checked Deck)
+          → and_then o (λ d. and_then (read_query d query_words) (λ q. and_then (check_sizes store_size scratch_size) (λ _. and_then (check_tight_query d q) (λ _. run_from d bars (first_goal q ∷ []) [] total answer_room store_size))))
+          ≡ and_then (and_then o (λ d. and_then (read_query d query_words) (λ q. and_then (check_sizes store_size scratch_size) (λ _. and_then (check_tight_query d q) (λ _. accepted (asked d q)))))) next_of
+      deck (refused n) = refl
+      deck (accepted d) = query (read_query d query_words) d
+
+  pub run-refused : (why : declared.Refusal) → number_of (Err why) ≡ checked_number (check_fresh deck_words query_words store_size scratch_size)
+      → run deck_words query_words bars total answer_room store_size scratch_size ≡ refused (refusal_for why)
+  unfolding and_then
+  run-refused why e = let r = number-refuses why (check_fresh deck_words query_words store_size scratch_size) e in run-then ∙ rw r
+
+  pub run-next : (f : Fresh deck_words query_words store_size scratch_size)
+      → run deck_words query_words bars total answer_room store_size scratch_size ≡ run_from f.deck bars (first_goal f.query ∷ []) [] total answer_room store_size
+  unfolding and_then
+  run-next f = let r = f.passes_all in run-then ∙ rw r
 
 -- A RUN, refused and accepted: fresh, or carrying on.
 pub gives-refused : (c : Checked Outcome) (s : Slices) (why : declared.Refusal) → c ≡ refused (refusal_for why) → Gives c s (result_of (Err why)) s
 unfolding returned Leaves
 gives-refused c s why r = record { returns = sym (ap returned r); leaves = subst (λ (x : Checked Outcome). Leaves x s s) (sym r) refl }
-
-pub ran-refused : (deck_words query_words : List ℕ) (total : ℕ) (s : Slices) (why : declared.Refusal)
-    → number_of (Err why) ≡ checked_number (run_on deck_words query_words total s) → Ran deck_words query_words total s (result_of (Err why)) s
-ran-refused deck_words query_words total s why e = gives-refused (run_on deck_words query_words total s) s why (number-refuses why (run_on deck_words query_words total s) e)
 
 -- Level 0's run asks of the store at its start only how long it is.
 pub topped-as : {d : Deck} {answers store₁ store answers' store' : List ℕ} {gs : List Goal} {ms : List Marked} {total : ℕ} {r : Report} → length store₁ ≡ length store

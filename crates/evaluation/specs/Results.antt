@@ -1,10 +1,12 @@
 -- The checks and the result of the public runs as the rules': a refusal, or the report.
 use Rattle.std.specs.Prelude.{ℕ, ◌≡◌, List, Result, Ok, Err}
 use Rattle.rules.specs.Refusals as rules
+use Rattle.rules.specs.Refusals.{and_then as ◌>>=◌}
 use Rattle.rules.specs.Run as run
-use Rattle.rules.specs.Syntax.{Symbol, Deck}
+use Rattle.rules.specs.Syntax.{Symbol, Literal, Deck}
 use Rattle.rules.specs.Stored.{OpenGoals, read_open}
-use Rattle.rules.specs.Loose.{check_tight}
+use Rattle.rules.specs.Decks.{open_deck, read_query}
+use Rattle.rules.specs.Loose.{check_tight, check_tight_query}
 use Rattle.report.specs.Reports.{report_of}
 use Rattle.deck.specs.Answers.{refusal_for, check_words}
 use Rattle.top_level.specs.Top.{InOrder}
@@ -14,6 +16,19 @@ use Rattle.report.specs.declared.Report.{Report}
 -- Refusals 1 to 9: the words of the deck and of the query, then the sizes of the store and the scratch.
 unfoldable pub check_sized : List ℕ → List ℕ → ℕ → ℕ → rules.Checked (Unit {0})
 check_sized deck_words query_words store_size scratch_size = rules.and_then (check_words deck_words query_words) (λ _. run.check_sizes store_size scratch_size)
+
+-- These, then 13 and 14, loose variables; or the deck and the query.
+pub record Asked : Type 0 where
+  pub deck : Deck
+  pub query : List Literal
+
+unfoldable pub check_fresh : List ℕ → List ℕ → ℕ → ℕ → rules.Checked Asked
+check_fresh deck_words query_words store_size scratch_size = do
+  deck ← open_deck deck_words
+  query ← read_query deck query_words
+  _ ← run.check_sizes store_size scratch_size
+  _ ← check_tight_query deck query
+  rules.accepted (record { deck = deck; query = query })
 
 -- Refusal 12, open goals that are not as they must be, then 13, a loose variable in a clause.
 unfoldable pub check_goals : Deck → ℕ → ℕ → ℕ → List ℕ → rules.Checked OpenGoals

@@ -7,6 +7,8 @@ ghost use Rattle.rules.specs.Run.{RanOn};
 ghost use Rattle.evaluation.specs.Results.{check_goals, result_of, slices, OpenAs};
 
 use crate::{from_goals, sizes};
+use clauses::Clauses;
+use clauses::by_predicate::Index;
 use deck::Refusal;
 use deck::opened::Opened;
 use report::Report;
@@ -25,19 +27,20 @@ fn open_goals(deck: &Opened, counts: OpenCounts, store: &[u16]) -> Result<(usize
 }
 
 // THE PUBLIC CALL: a run that carries on from the goals that the store begins with, `pending` of them pending and then `parked` of them parked, each of
-// `terms` answer terms. Refusals 1 to 5 of the deck, 8 and 9 of the sizes, then 12 of the goals and 13 of the deck. A refusal leaves answers, store
+// `terms` answer terms. Refusals 1 to 5 of the deck, 8 and 9 of the sizes, then 12 of the goals, 13 of the deck, and 15 and 16 of the member's list. A refusal leaves answers, store
 // and scratch untouched. An accepted run leaves what a fresh one does.
 pub fn carry_on(
     deck: &[u16],
     pending: u64,
     parked: u64,
     terms: u64,
+    bars: &[u16],
     budget: u32,
     answers: &mut [u16],
     store: &mut [u16],
     scratch: &mut [u16],
 ) -> Result<Report, Refusal>
-    ensures { RanOn deck.now pending parked terms budget (slices answers.old store.old scratch.old) (result_of result) (slices answers.new store.new scratch.new) }
+    ensures { RanOn deck.now pending parked terms bars.now budget (slices answers.old store.old scratch.old) (result_of result) (slices answers.new store.new scratch.new) }
 {
     let opened = Opened::new(deck)?;
     sizes(store.len(), scratch.len())?;
@@ -47,9 +50,13 @@ pub fn carry_on(
         terms,
     };
     let (held, end) = open_goals(&opened, counts, store)?;
+    let mut index = Index::blank();
+    index.fill(&opened);
+    let clauses = Clauses::new(opened, &index);
+    rights::check_goals(&clauses, &store[..end], bars)?;
     top_level::resume(store, held, end);
     let parked = end - held;
     let parts = Parts { parked, held };
     let start = Start { parts, budget };
-    Ok(from_goals(opened, start, answers, store, scratch))
+    Ok(from_goals(&clauses, start, answers, store, scratch))
 }

@@ -3,10 +3,10 @@
 
 ghost use Rattle.std.specs.Prelude.{◌≡◌, ℕ, ◌≤◌, length, IfOk};
 ghost use Rattle.rules.specs.Refusals.{checked_number};
-ghost use Rattle.rules.specs.Run.{run, check_sizes};
+ghost use Rattle.rules.specs.Run.{check_sizes};
 ghost use Rattle.deck.specs.Answers.{answer_number, number_of};
 ghost use Rattle.top_level.specs.Top.{SomeOpening, RunsStored};
-ghost use Rattle.evaluation.specs.Results.{check_sized, result_of, slices};
+ghost use Rattle.evaluation.specs.Results.{check_sized, check_fresh, result_of, slices};
 
 use clauses::Clauses;
 use clauses::by_predicate::Index;
@@ -40,7 +40,7 @@ fn refusal<'a>(
     store: usize,
     scratch: usize,
 ) -> Result<Opened<'a>, Refusal>
-    ensures number { (budget answer_room : ℕ) → answer_number result ≡ checked_number (run deck.now query.now budget answer_room store scratch) }
+    ensures number { answer_number result ≡ checked_number (check_fresh deck.now query.now store scratch) }
     ensures words { IfOk result (λ opened. opened.words.now ≡ deck.now) }
 {
     let opened = sized(deck, query, store, scratch)?;
@@ -62,41 +62,43 @@ fn sizes(store: usize, scratch: usize) -> Result<(), Refusal>
 }
 
 // Answers, store and scratch stay three, as the C interface lends them.
-// THE PUBLIC RUN. A refusal leaves answers, store and scratch untouched. An accepted run fills the answer list from its start, and the
+// THE PUBLIC RUN, for a member with the list `bars`: refusals 15 and 16 come last. A refusal leaves answers, store and scratch untouched. An accepted run fills the answer list from its start, and the
 // store begins with the pending goals in order, then the parked ones in order of parking; the rest of the store and the scratch are free.
 pub fn run(
     deck: &[u16],
     query: &[u16],
+    bars: &[u16],
     budget: u32,
     answers: &mut [u16],
     store: &mut [u16],
     scratch: &mut [u16],
 ) -> Result<Report, Refusal>
-    ensures { Rattle.rules.specs.Run.Ran deck.now query.now budget (slices answers.old store.old scratch.old) (result_of result) (slices answers.new store.new scratch.new) }
+    ensures { Rattle.rules.specs.Run.Ran deck.now query.now bars.now budget (slices answers.old store.old scratch.old) (result_of result) (slices answers.new store.new scratch.new) }
 {
     let opened = refusal(deck, query, store.len(), scratch.len())?;
+    let mut index = Index::blank();
+    index.fill(&opened);
+    let clauses = Clauses::new(opened, &index);
+    rights::check_query(&clauses, query, bars)?;
     let held = top_level::first(query, store);
     let parts = Parts { parked: 0, held };
     let start = Start { parts, budget };
-    Ok(from_goals(opened, start, answers, store, scratch))
+    Ok(from_goals(&clauses, start, answers, store, scratch))
 }
 
 // The evaluation from goals that are stored as a run holds them.
 fn from_goals(
-    deck: Opened,
+    clauses: &Clauses,
     start: Start,
     answers: &mut [u16],
     store: &mut [u16],
     scratch: &mut [u16],
 ) -> Report
-    requires opening { SomeOpening deck.words.now store.old start.parts.parked start.parts.held }
+    requires opening { SomeOpening clauses.now.deck.words.now store.old start.parts.parked start.parts.held }
     requires short_store { length store.old ≤ 65535 }
     requires room { 8192 ≤ length scratch.old }
-    ensures { RunsStored deck.entry.words.now answers.old store.old start.parts.parked start.parts.held start.budget answers.new store.new result }
+    ensures { RunsStored clauses.now.deck.words.now answers.old store.old start.parts.parked start.parts.held start.budget answers.new store.new result }
 {
-    let mut index = Index::blank();
-    index.fill(&deck);
-    let clauses = Clauses::new(deck, &index);
     let mut work = Workspace::new(scratch);
-    top_level::top(&clauses, start, answers, store, &mut work)
+    top_level::top(clauses, start, answers, store, &mut work)
 }

@@ -30,8 +30,8 @@ pub record Calls (c : Checked Outcome) (entry : Slices) (before : Numbers) (r : 
   pub tells : Tells result before r after
 
 -- The calls for a run, and for one that carries on.
-abbrev pub Called : List ℕ → List ℕ → ℕ → Slices → Numbers → ℕ → Slices → Numbers → Type 0
-Called deck query budget entry = Calls (run_on deck query budget entry) entry
+abbrev pub Called : List ℕ → List ℕ → List ℕ → ℕ → Slices → Numbers → ℕ → Slices → Numbers → Type 0
+Called deck query bars budget entry = Calls (run_on deck query bars budget entry) entry
 
-abbrev pub CalledOn : List ℕ → ℕ → ℕ → ℕ → ℕ → Slices → Numbers → ℕ → Slices → Numbers → Type 0
-CalledOn deck pending parked terms budget entry = Calls (carry_from deck pending parked terms budget entry) entry
+abbrev pub CalledOn : List ℕ → ℕ → ℕ → ℕ → List ℕ → ℕ → Slices → Numbers → ℕ → Slices → Numbers → Type 0
+CalledOn deck pending parked terms bars budget entry = Calls (carry_from deck pending parked terms bars budget entry) entry

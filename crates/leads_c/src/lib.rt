@@ -32,6 +32,7 @@ pub extern "C" fn leads_check(deck: &[u16], query: &[u16]) -> u32
 pub extern "C" fn leads_run(
     deck: &[u16],
     query: &[u16],
+    bars: &[u16],
     budget: u32,
     answers: &mut [u16],
     store: &mut [u16],
@@ -43,9 +44,9 @@ pub extern "C" fn leads_run(
     pending: &mut u32,
     parked: &mut u32,
 ) -> u32
-    ensures { Called deck.now query.now budget (slices answers.old store.old scratch.old) (numbers stop.old steps.old cost.old answer_count.old pending.old parked.old) result (slices answers.new store.new scratch.new) (numbers stop.new steps.new cost.new answer_count.new pending.new parked.new) }
+    ensures { Called deck.now query.now bars.now budget (slices answers.old store.old scratch.old) (numbers stop.old steps.old cost.old answer_count.old pending.old parked.old) result (slices answers.new store.new scratch.new) (numbers stop.new steps.new cost.new answer_count.new pending.new parked.new) }
 {
-    let ran = evaluation::run(deck, query, budget, answers, store, scratch);
+    let ran = evaluation::run(deck, query, bars, budget, answers, store, scratch);
     told(ran, stop, steps, cost, answer_count, pending, parked)
 }
 
@@ -55,6 +56,7 @@ pub extern "C" fn leads_continue(
     pending: u64,
     parked: u64,
     terms: u64,
+    bars: &[u16],
     budget: u32,
     answers: &mut [u16],
     store: &mut [u16],
@@ -66,10 +68,10 @@ pub extern "C" fn leads_continue(
     pending_after: &mut u32,
     parked_after: &mut u32,
 ) -> u32
-    ensures { CalledOn deck.now pending parked terms budget (slices answers.old store.old scratch.old) (numbers stop.old steps.old cost.old answer_count.old pending_after.old parked_after.old) result (slices answers.new store.new scratch.new) (numbers stop.new steps.new cost.new answer_count.new pending_after.new parked_after.new) }
+    ensures { CalledOn deck.now pending parked terms bars.now budget (slices answers.old store.old scratch.old) (numbers stop.old steps.old cost.old answer_count.old pending_after.old parked_after.old) result (slices answers.new store.new scratch.new) (numbers stop.new steps.new cost.new answer_count.new pending_after.new parked_after.new) }
 {
     let ran = evaluation::carry::carry_on(
-        deck, pending, parked, terms, budget, answers, store, scratch,
+        deck, pending, parked, terms, bars, budget, answers, store, scratch,
     );
     told(
         ran,

@@ -1,5 +1,5 @@
-// The program with a budget: reads the deck from survey.dck, the budget from the file budget, if there is one, and the query from standard input; prints
-// the listing, and writes the goals left to open.goals.new.
+// The program with a budget, for a member: reads the deck from survey.dck, the member's list from the file bars and the budget from the file budget, if
+// there are such files, and the query from standard input; prints the listing, and writes the goals left to open.goals.new.
 #![tactic(auto)]
 
 ghost use Rattle.std.specs.Prelude.{ℕ, List, OnOk};
@@ -15,42 +15,48 @@ use std::{fs, io};
 
 fn main(rt: HostRuntime) -> io::Result<()> {
     let mut file = fs::open(&rt, "survey.dck").ok();
+    let mut barred = fs::open(&rt, "bars").ok();
     let mut given = fs::open(&rt, "budget").ok();
     answer(
         &rt,
         &mut file,
+        &mut barred,
         &mut given,
         &mut rt.stdin(),
         &mut io::writer(&rt),
     )
 }
 
-// Reads the deck and the budget from their files, if they are open, and the query from the input; keeps the goals left, and writes the listing.
+// Reads the deck, the member's list and the budget from their files, if they are open, and the query from the input; keeps the goals left, and writes the listing.
 // No more is read than it takes to tell that there is too much; of a budget 32 bytes.
 // No function for all programs takes the rule's function: this contract would stay here, and that function would need one as long, over any rule.
-fn answer<D: Read, L: Read, Q: Read, W: Write>(
+fn answer<D: Read, B: Read, L: Read, Q: Read, W: Write>(
     rt: &impl Files,
     file: &mut Option<D>,
+    barred: &mut Option<B>,
     given: &mut Option<L>,
     input: &mut Q,
     to: &mut W,
 ) -> io::Result<()>
-    ensures { OnOk result ((deck : Option (List ℕ)) × (limit : Option (List ℕ)) × (query : List ℕ)
+    ensures { OnOk result ((deck : Option (List ℕ)) × (bars : Option (List ℕ)) × (limit : Option (List ℕ)) × (query : List ℕ)
         × TakesFrom D.remaining file.old file.new deck
+        × TakesFrom B.remaining barred.old barred.new bars
         × TakesFrom L.remaining given.old given.new limit
         × Consumes (Q.remaining input.old) (Q.remaining input.new) query
         × Appends (W.contents to.old) (W.contents to.new)
-        (kept_listing (open_run deck query (budget_from limit)))) }
+        (kept_listing (open_run deck query bars (budget_from limit)))) }
 {
     let mut deck_room = [0u8; 32770];
     let mut query_room = [0u8; 1002];
+    let mut bars_room = [0u8; 8194];
     let mut limit_room = [0u8; 32];
     let mut out = [0u8; 65605];
     let mut left = [0u8; 32792];
     let deck = contents(file, &mut deck_room);
+    let bars = contents(barred, &mut bars_room);
     let limit = contents(given, &mut limit_room);
     let query = taken(input, &mut query_room);
-    let outputs = carry_program::open_printed(deck, query, limit, &mut out, &mut left);
+    let outputs = carry_program::open_printed(deck, query, bars, limit, &mut out, &mut left);
     if let Some(g) = outputs.goals {
         keep(rt, "open.goals.new", &left[..g]);
     }

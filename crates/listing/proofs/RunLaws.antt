@@ -41,10 +41,10 @@ evaluated-shown deck_words deck opens answer_room store_size gs ms budget p q o 
     }
 
 pub run-shown :
-    (deck_words query_words : List ℕ) (budget answer_room store_size scratch_size : ℕ) (o : Outcome)
-    → run.run deck_words query_words budget answer_room store_size scratch_size ≡ accepted o → (report : Report) → report_of report ≡ run.report o → (entry : List ℕ)
+    (deck_words query_words bars : List ℕ) (budget answer_room store_size scratch_size : ℕ) (o : Outcome)
+    → run.run deck_words query_words bars budget answer_room store_size scratch_size ≡ accepted o → (report : Report) → report_of report ≡ run.report o → (entry : List ℕ)
     → Shown o report (answers_after o entry) (symbol_words deck_words)
-run-shown deck_words query_words budget answer_room store_size scratch_size o e report same entry =
-    let a = run-accepted deck_words query_words budget answer_room store_size scratch_size o e in
+run-shown deck_words query_words bars budget answer_room store_size scratch_size o e report same entry =
+    let a = run-accepted deck_words query_words bars budget answer_room store_size scratch_size o e in
     let q = query-reads a.deck query_words a.query a.asks in
     evaluated-shown deck_words a.deck a.opens answer_room store_size (first_goal a.query ∷ []) [] budget (first_goal-wf a.deck.symbols a.query q.1, tt) tt o a.evaluates report same entry

@@ -1,20 +1,19 @@
 -- What the program's run comes to, test by test, and what the run on the program's buffers returns and leaves.
-use Prim.Native.Nat.{ℕ}
+use Prim.Native.Nat.{ℕ, zero, suc, ◌≤◌}
 use mathlib.Core.Path.{◌≡◌, refl, ap, ◌∙◌, subst}
 use mathlib.Core.Bool.{true}
 use mathlib.Core.Option.{Option}
-use mathlib.Core.List.{List}
+use mathlib.Core.List.{List, ◌∷◌}
 use native.Mathlib.Omega.{arith}
-use lib.ListN.{length, replicate, length-replicate}
+use lib.ListN.{length, take, replicate, length-replicate}
 use Rattle.rules.specs.Syntax.{Deck}
 use Rattle.rules.specs.Refusals.{Refusal, Checked, refused, accepted, and_then}
 use Rattle.rules.specs.Decks.{header_fits, open_deck}
 use Rattle.rules.specs.Evaluation.{Outcome}
-use Rattle.rules.specs.Run.{Report, report, returned, answers_after, Slices, Filled, Leaves, run_on, Ran}
+use Rattle.rules.specs.Run.{run, Report, report, returned, answers_after, Slices, Filled, Leaves, run_on, Ran}
 use Rattle.rules.specs.Program.{deck_file, query_input, program_run}
 use Rattle.rules.specs.CarryProgram.{deck_input}
 use Rattle.rules.proofs.DeckLaws.{steps-open}
-use Rattle.rules.proofs.Demand3.{run-accepted}
 use Rattle.program.specs.Runs.{words_run}
 
 -- A check, and then others.
@@ -32,17 +31,25 @@ abbrev asked_run : List ℕ → List ℕ → Checked Outcome
 asked_run input deck_words = and_then (query_input input) (λ query_words. words_run deck_words query_words)
 
 program_run-and_then : (file : Option (List ℕ)) (input : List ℕ) → program_run file input ≡ and_then (deck_input file) (asked_run input)
-unfolding program_run deck_input and_then
+unfolding program_run deck_input words_run and_then
 program_run-and_then file input = go (deck_file file)
   where
-    opened : (deck_words : List ℕ) (d : Checked Deck) → and_then d (λ _. asked_run input deck_words) ≡ and_then (and_then d (λ _. accepted deck_words)) (asked_run input)
-    opened deck_words (refused n) = refl
-    opened deck_words (accepted d) = refl
+    program_next : List ℕ → Deck → List ℕ → Checked Outcome
+    program_next deck_words d query_words = run deck_words query_words (replicate (length d.symbols) 0) 100000 8192 16384 8192
 
-    go : (c : Checked (List ℕ)) → and_then c (λ deck_words. and_then (open_deck deck_words) (λ _. asked_run input deck_words))
+    asked : (deck_words : List ℕ) (d : Deck) → open_deck deck_words ≡ accepted d → (q : Checked (List ℕ)) → and_then q (program_next deck_words d) ≡ and_then q (words_run deck_words)
+    asked deck_words d e (refused n) = refl
+    asked deck_words d e (accepted query_words) = rw e refl
+
+    opened : (deck_words : List ℕ) (d : Checked Deck) → open_deck deck_words ≡ d
+        → and_then d (λ k. and_then (query_input input) (program_next deck_words k)) ≡ and_then (and_then d (λ _. accepted deck_words)) (asked_run input)
+    opened deck_words (refused n) e = refl
+    opened deck_words (accepted d) e = asked deck_words d e (query_input input)
+
+    go : (c : Checked (List ℕ)) → and_then c (λ deck_words. and_then (open_deck deck_words) (λ k. and_then (query_input input) (program_next deck_words k)))
         ≡ and_then (and_then c (λ deck_words. and_then (open_deck deck_words) (λ _. accepted deck_words))) (asked_run input)
     go (refused n) = refl
-    go (accepted deck_words) = opened deck_words (open_deck deck_words)
+    go (accepted deck_words) = opened deck_words (open_deck deck_words) refl
 
 module _ (file : Option (List ℕ)) (input : List ℕ) where
   pub program_run-deck : (n : Refusal) → deck_input file ≡ refused n → program_run file input ≡ refused n
@@ -80,15 +87,31 @@ unfolding returned
 returned-accepted (refused m) r e = absurd (let z : ◌≡◌ {A = ℕ} 0 1 = cc in omega arith)
 returned-accepted (accepted o) r e = let q : r ≡ report o = cc in (o, refl, q)
 
-module _ (deck_words query_words : List ℕ) (entry exit : Slices) (b : Buffers entry) where
-  same-run : words_run deck_words query_words ≡ run_on deck_words query_words 100000 entry
-  unfolding run_on
-  same-run = rw (b.answers, b.store, b.scratch)
+-- A list with as many zeros as there are symbols.
+pub zeros-part : (n k : ℕ) → n ≤ k → take {A = ℕ} n (replicate k 0) ≡ replicate n 0
+zeros-part zero k h = refl
+zeros-part (suc n) zero h = absurd (omega arith)
+zeros-part (suc n) (suc k) h = ap (0 ∷◌) (zeros-part n k (omega arith))
 
-  pub run-refused : (n : Refusal) → Ran deck_words query_words 100000 entry (refused n) exit → words_run deck_words query_words ≡ refused n
+pub words-run : (deck_words query_words : List ℕ) (d : Deck) → open_deck deck_words ≡ accepted d
+    → words_run deck_words query_words ≡ run deck_words query_words (replicate (length d.symbols) 0) 100000 8192 16384 8192
+unfolding words_run and_then
+words-run deck_words query_words d e = rw e refl
+
+-- A deck that is refused, whatever is asked.
+pub deck-refused : (deck_words query_words : List ℕ) (n : Refusal) → open_deck deck_words ≡ refused n → words_run deck_words query_words ≡ refused n
+unfolding words_run and_then
+deck-refused deck_words query_words n e = rw e
+
+module _ (deck_words query_words bars : List ℕ) (d : Deck) (o : open_deck deck_words ≡ accepted d) (zeros : bars ≡ replicate (length d.symbols) 0) (entry exit : Slices) (b : Buffers entry) where
+  same-run : words_run deck_words query_words ≡ run_on deck_words query_words bars 100000 entry
+  unfolding words_run run_on and_then
+  same-run = rw (o, zeros, b.answers, b.store, b.scratch)
+
+  pub run-refused : (n : Refusal) → Ran deck_words query_words bars 100000 entry (refused n) exit → words_run deck_words query_words ≡ refused n
   run-refused n r = same-run ∙ returned-refused _ n r.returns
 
-  pub run-done : (r : Report) → Ran deck_words query_words 100000 entry (accepted r) exit
+  pub run-done : (r : Report) → Ran deck_words query_words bars 100000 entry (accepted r) exit
       → (o : Outcome) × (words_run deck_words query_words ≡ accepted o) × (r ≡ report o) × (exit.answers ≡ answers_after o entry.answers)
   unfolding Leaves
   run-done r ran =
@@ -97,6 +120,5 @@ module _ (deck_words query_words : List ℕ) (entry exit : Slices) (b : Buffers 
       (t.0, same-run ∙ t.1, t.2, left.answers)
 
 -- A deck on which a run is accepted has a header that fits.
-pub header-fits : (deck_words query_words : List ℕ) (o : Outcome) → words_run deck_words query_words ≡ accepted o → header_fits deck_words ≡ true
-header-fits deck_words query_words o e =
-    let a = run-accepted deck_words query_words 100000 8192 16384 8192 o e in (steps-open deck_words a.deck a.opens).fits
+pub header-fits : (deck_words : List ℕ) (d : Deck) → open_deck deck_words ≡ accepted d → header_fits deck_words ≡ true
+header-fits deck_words d e = (steps-open deck_words d e).fits

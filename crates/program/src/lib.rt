@@ -7,12 +7,15 @@ ghost use Rattle.listing.specs.Printed.{file_of, Printed};
 ghost use Rattle.program_parts.specs.Answers.{Prints};
 ghost use Rattle.program.specs.Runs.{words_run};
 
+use bars::nothing_barred;
 use deck::Refusal;
+use deck::opened::Opened;
 use input::{opened_deck, query_words};
 use listing::output::Output;
 use lists::Lists;
 use program_parts::or_refusal;
 
+pub mod bars;
 pub mod input;
 pub mod lists;
 
@@ -44,10 +47,13 @@ fn asked(deck: Option<&[u8]>, query: &[u8], out: &mut [u8; 65605]) -> Result<usi
 fn listed(deck: &[u16], query: &[u16], out: &mut [u8; 65605]) -> Result<usize, Refusal>
     ensures { Prints listing (words_run deck.now query.now) out.old result out.new }
 {
+    let opened = Opened::new(deck)?;
+    let zeros = [0; 4096];
     let mut lists = Lists::new();
     let report = evaluation::run(
         deck,
         query,
+        nothing_barred(&opened, &zeros),
         BUDGET,
         &mut lists.answers,
         &mut lists.store,

@@ -15,8 +15,9 @@ use Rattle.rules.specs.Decks.{open_deck, read_query}
 use Rattle.rules.specs.Goals.{Marked, unmarked, write_goals, read_goals, variables, query_variables, first_goal}
 use Rattle.rules.specs.Stored.{OpenGoals, read_open}
 use Rattle.rules.specs.Loose.{tight_clauses, check_tight}
+use Rattle.rules.specs.Rights.{check_rights}
 use Rattle.rules.specs.Evaluation.{Outcome, evaluate}
-use Rattle.rules.specs.Run.{check_sizes, Carried, carry, carry_on, carry_from, run_on, Report, report, returned, store_start, Slices, Filled, Leaves, Ran, RanOn}
+use Rattle.rules.specs.Run.{run_from, check_sizes, Carried, carry, carry_on, carry_from, run_on, Report, report, returned, store_start, Slices, Filled, Leaves, Ran, RanOn}
 use Rattle.rules.specs.WellFormed.{All, WfGoal, WfMarked}
 use Rattle.rules.specs.Meaning.{Inds, Interpretation, Satisfies, SomeCovers}
 use Rattle.rules.specs.ThreeValues.{◌⊑◌, Interpretation3, Satisfies3, goal_value, goals_value, ExcludedMiddle}
@@ -63,13 +64,14 @@ carry-parts deck_words pending parked terms store_words scratch_size c e =
     (d.1, obtained bad_goals (read_open d.0.symbols pending parked terms store_words) g.1, required loose_clause (tight_clauses d.0.clauses) t.1)
 
 pub carry-accepted :
-    (deck_words : List ℕ) (pending parked terms : ℕ) (budget answer_room : ℕ) (store_words : List ℕ) (scratch_size : ℕ) (o : Outcome)
-    → carry_on (carry deck_words pending parked terms store_words scratch_size) budget answer_room (length store_words) ≡ accepted o
+    (deck_words : List ℕ) (pending parked terms : ℕ) (bars : List ℕ) (budget answer_room : ℕ) (store_words : List ℕ) (scratch_size : ℕ) (o : Outcome)
+    → carry_on (carry deck_words pending parked terms store_words scratch_size) bars budget answer_room (length store_words) ≡ accepted o
     → AcceptedOn deck_words pending parked terms budget answer_room store_words o
-unfolding carry_on
-carry-accepted deck_words pending parked terms budget answer_room store_words scratch_size o e =
+unfolding carry_on run_from
+carry-accepted deck_words pending parked terms bars budget answer_room store_words scratch_size o e =
     let c = passed (carry deck_words pending parked terms store_words scratch_size) _ e in
     let parts = carry-parts deck_words pending parked terms store_words scratch_size c.0 c.1 in
+    let r = passed (check_rights c.0.deck bars _) _ c.2 in
     record { deck = c.0.deck; goals = c.0.goals; opens = parts.0; carries = parts.1; tight_deck = parts.2; evaluates = cc }
 
 -- The words of open goals, pending ones first.
@@ -77,6 +79,7 @@ abbrev pub open_words : OpenGoals → List ℕ
 open_words o = write_goals (unmarked o.pending ++ o.parked)
 
 -- From what a run leaves the next one is let carry on: with the counts that were returned, over any store of an allowed size that begins with those words.
+-- A member's list is checked after this; one that was let through is so again (`MemberRuns.LetOn`).
 pub record CarriesOn (deck_words : List ℕ) (terms : ℕ) (r : Report) (exit : Slices) : Type 0 where
   pub deck : Deck
   pub goals : OpenGoals
@@ -92,22 +95,24 @@ all_pass : (deck_words : List ℕ) (pending parked terms : ℕ) (store_words : L
 unfolding carry check_tight and_then obtain require
 all_pass deck_words pending parked terms store_words scratch_size deck goals o s g t = rw (o, s, g, t)
 
+-- So a store is let through that begins with goals as they must be.
+pub left-accepted : (deck_words : List ℕ) (terms : ℕ) (deck : Deck) → open_deck deck_words ≡ accepted deck → tight_clauses deck.clauses ≡ true → (goals : OpenGoals)
+    → All (Fits deck.symbols terms) goals.pending → All (ParkedFits deck.symbols terms) goals.parked → (store_words : List ℕ) (scratch_size : ℕ)
+    → take (length (open_words goals)) store_words ≡ open_words goals → check_sizes (length store_words) scratch_size ≡ accepted tt
+    → carry deck_words (length goals.pending) (length goals.parked) terms store_words scratch_size ≡ accepted (record { deck = deck; goals = goals })
+left-accepted deck_words terms deck opens tight goals p q ws scratch_size begins sizes =
+    let n : ℕ = length (open_words goals) in
+    let whole : open_words goals ++ drop n ws ≡ ws = ap (λ xs. xs ++ drop n ws) (sym begins) ∙ take-append-drop n ws in
+    all_pass deck_words (length goals.pending) (length goals.parked) terms ws scratch_size deck goals opens sizes
+    (subst (λ xs. read_open deck.symbols (length goals.pending) (length goals.parked) terms xs ≡ some goals) whole
+    (read-open deck.symbols terms goals.pending goals.parked (drop n ws) p q)) tight
+
 left-carries : (deck_words : List ℕ) (terms : ℕ) (exit entry : Slices) (deck : Deck) → open_deck deck_words ≡ accepted deck → tight_clauses deck.clauses ≡ true → (o : Outcome)
     → Filled o entry exit → All (Fits deck.symbols terms) o.pending → All (ParkedFits deck.symbols terms) o.parked → CarriesOn deck_words terms (report o) exit
 unfolding report store_start
 left-carries deck_words terms exit entry deck opens tight o left p q =
     let goals : OpenGoals = record { pending = o.pending; parked = o.parked } in
-    let n : ℕ = length (open_words goals) in
-    record {
-      deck = deck;
-      goals = goals;
-      left = left.store;
-      carries = λ ws scratch_size begins sizes.
-          let whole : open_words goals ++ drop n ws ≡ ws = ap (λ xs. xs ++ drop n ws) (sym begins) ∙ take-append-drop n ws in
-          all_pass deck_words (length o.pending) (length o.parked) terms ws scratch_size deck goals opens sizes
-          (subst (λ xs. read_open deck.symbols (length o.pending) (length o.parked) terms xs ≡ some goals) whole
-          (read-open deck.symbols terms o.pending o.parked (drop n ws) p q)) tight;
-    }
+    record { deck = deck; goals = goals; left = left.store; carries = left-accepted deck_words terms deck opens tight goals p q }
 
 -- A statement about the goals before and after every evaluation.
 abbrev Always : (Deck → List Marked → List Marked → Type 1) → Type 1
@@ -163,19 +168,19 @@ module _ (deck_words : List ℕ) (pending parked terms budget : ℕ) (entry exit
       (subst (λ (x : Outcome). All (ParkedFits deck.symbols terms) x.parked) (sym a.evaluates) fit.1)
 
 -- A RUN THAT CARRIES ON.
-module _ (deck_words : List ℕ) (pending parked terms : ℕ) (budget : ℕ) (entry exit : Slices) (r : Report)
-    (ran : RanOn deck_words pending parked terms budget entry (accepted r) exit) where
+module _ (deck_words : List ℕ) (pending parked terms : ℕ) (bars : List ℕ) (budget : ℕ) (entry exit : Slices) (r : Report)
+    (ran : RanOn deck_words pending parked terms bars budget entry (accepted r) exit) where
   -- What holds of the accepted outcome holds of the run.
   accepted-on {ℓ} : (Q : Report → Type ℓ)
       → ((o : Outcome) → AcceptedOn deck_words pending parked terms budget (length entry.answers) entry.store o → Filled o entry exit → Q (report o)) → Q r
   unfolding Leaves returned carry_from
-  accepted-on Q h = go (carry_from deck_words pending parked terms budget entry) refl ran.returns ran.leaves
+  accepted-on Q h = go (carry_from deck_words pending parked terms bars budget entry) refl ran.returns ran.leaves
     where
-      go : (c : Checked Outcome) → carry_from deck_words pending parked terms budget entry ≡ c → accepted r ≡ returned c → Leaves c entry exit → Q r
+      go : (c : Checked Outcome) → carry_from deck_words pending parked terms bars budget entry ≡ c → accepted r ≡ returned c → Leaves c entry exit → Q r
       go (refused n) e back left = absurd (let z : ◌≡◌ {A = ℕ} 0 1 = cc in omega arith)
       go (accepted o) e back left =
           let same : report o ≡ r = cc in
-          subst Q same (h o (carry-accepted deck_words pending parked terms budget (length entry.answers) entry.store (length entry.scratch) o e) left)
+          subst Q same (h o (carry-accepted deck_words pending parked terms bars budget (length entry.answers) entry.store (length entry.scratch) o e) left)
 
   says_on : (Statement : Deck → List Marked → List Marked → Type 1) → Always Statement → SaidOn Statement deck_words pending parked terms entry r exit
   says_on Statement always = accepted-on (λ x. SaidOn Statement deck_words pending parked terms entry x exit)
@@ -216,26 +221,30 @@ unfolding variables
 variables-count [] = refl
 variables-count (v ∷ vs) = ap suc (variables-count vs)
 
+pub first_fits : (deck : Deck) (query_words : List ℕ) (query : List Literal) → read_query deck query_words ≡ accepted query
+    → Fits deck.symbols (length (query_variables query)) (first_goal query)
+unfolding first_goal
+first_fits deck query_words query asks = record {
+  wf = first_goal-wf deck.symbols query (query-reads deck query_words query asks).1;
+  many = variables-count (query_variables query);
+}
+
 pub fresh-carries :
-    (deck_words query_words : List ℕ) (budget : ℕ) (entry exit : Slices) (r : Report) → Ran deck_words query_words budget entry (accepted r) exit
+    (deck_words query_words bars : List ℕ) (budget : ℕ) (entry exit : Slices) (r : Report) → Ran deck_words query_words bars budget entry (accepted r) exit
     → (deck : Deck) × (query : List Literal) × (open_deck deck_words ≡ accepted deck) × (read_query deck query_words ≡ accepted query)
     × CarriesOn deck_words (length (query_variables query)) r exit
-unfolding Leaves returned run_on first_goal
-fresh-carries deck_words query_words budget entry exit r ran = go (run_on deck_words query_words budget entry) refl ran.returns ran.leaves
+unfolding Leaves returned run_on
+fresh-carries deck_words query_words bars budget entry exit r ran = go (run_on deck_words query_words bars budget entry) refl ran.returns ran.leaves
   where
-    go : (c : Checked Outcome) → run_on deck_words query_words budget entry ≡ c → accepted r ≡ returned c → Leaves c entry exit
+    go : (c : Checked Outcome) → run_on deck_words query_words bars budget entry ≡ c → accepted r ≡ returned c → Leaves c entry exit
         → (deck : Deck) × (query : List Literal) × (open_deck deck_words ≡ accepted deck) × (read_query deck query_words ≡ accepted query)
         × CarriesOn deck_words (length (query_variables query)) r exit
     go (refused n) e back left = absurd (let z : ◌≡◌ {A = ℕ} 0 1 = cc in omega arith)
     go (accepted o) e back left =
-        let a = run-accepted deck_words query_words budget (length entry.answers) (length entry.store) (length entry.scratch) o e in
+        let a = run-accepted deck_words query_words bars budget (length entry.answers) (length entry.store) (length entry.scratch) o e in
         let deck : Deck = a.deck in
         let terms : ℕ = length (query_variables a.query) in
-        let first : Fits deck.symbols terms (first_goal a.query) = record {
-          wf = first_goal-wf deck.symbols a.query (query-reads deck query_words a.query a.asks).1;
-          many = variables-count (query_variables a.query);
-        } in
-        let fit = left-fit deck (opened-written deck_words deck a.opens).1 terms (first_goal a.query ∷ []) [] (first, tt) tt (length entry.answers) (length entry.store) budget in
+        let fit = left-fit deck (opened-written deck_words deck a.opens).1 terms (first_goal a.query ∷ []) [] (first_fits deck query_words a.query a.asks, tt) tt (length entry.answers) (length entry.store) budget in
         let same : report o ≡ r = cc in (
           deck,
           a.query,
@@ -247,14 +256,14 @@ fresh-carries deck_words query_words budget entry exit r ran = go (run_on deck_w
         )
 
 -- RUNS CONTINUED ONE FROM THE OTHER, on one deck, from the goals that `store_words` begins with: each has a store that begins with the goals that the one
--- before has left, and the counts that it returned; budgets, answer lists and the stores' sizes may be any. Then `listed` are the answers of all
+-- before has left, and the counts that it returned; members' lists, budgets, answer lists and the stores' sizes may be any. Then `listed` are the answers of all
 -- of them, each read from its own answer list, and `left_open` the goals at the start of the last store.
 pub data CarriedOn (deck_words : List ℕ) (symbols : List Symbol) (terms : ℕ) : ℕ → ℕ → List ℕ → List Marked → List Marked → Type 0 where
   rests : {pending parked : ℕ} {store_words : List ℕ} {left_open : List Marked} → read_goals symbols (pending + parked) store_words ≡ some left_open
       → CarriedOn deck_words symbols terms pending parked store_words [] left_open
-  goes_on : (budget : ℕ) {pending parked : ℕ} {store_words : List ℕ} {entry exit : Slices} {r : Report} {listed later left_open : List Marked}
+  goes_on : (bars : List ℕ) (budget : ℕ) {pending parked : ℕ} {store_words : List ℕ} {entry exit : Slices} {r : Report} {listed later left_open : List Marked}
       → read_goals symbols (pending + parked) entry.store ≡ read_goals symbols (pending + parked) store_words
-      → RanOn deck_words pending parked terms budget entry (accepted r) exit → read_goals symbols r.answers exit.answers ≡ some listed
+      → RanOn deck_words pending parked terms bars budget entry (accepted r) exit → read_goals symbols r.answers exit.answers ≡ some listed
       → CarriedOn deck_words symbols terms r.pending r.parked exit.store later left_open
       → CarriedOn deck_words symbols terms pending parked store_words (listed ++ later) left_open
 
@@ -304,16 +313,16 @@ known-lasts = record {
   behind = λ deck first ms ns a I sat choice. value-behind I choice first ms ns (a I sat choice);
 }
 
-same_read : {A : Type 0} {x y : A} {o : Option A} → o ≡ some x → o ≡ some y → x ≡ y
+pub same_read : {A : Type 0} {x y : A} {o : Option A} → o ≡ some x → o ≡ some y → x ≡ y
 same_read {x = x} {y} p q = some-injective x y (sym p ∙ q)
 
 -- A statement that holds of each run.
 abbrev OfEach : (Deck → List Marked → List Marked → Type 1) → Type 1
-OfEach Statement = (deck_words : List ℕ) (pending parked terms budget : ℕ) (entry exit : Slices) (r : Report)
-    → RanOn deck_words pending parked terms budget entry (accepted r) exit → SaidOn Statement deck_words pending parked terms entry r exit
+OfEach Statement = (deck_words : List ℕ) (pending parked terms : ℕ) (bars : List ℕ) (budget : ℕ) (entry exit : Slices) (r : Report)
+    → RanOn deck_words pending parked terms bars budget entry (accepted r) exit → SaidOn Statement deck_words pending parked terms entry r exit
 
 each-valued : ExcludedMiddle → OfEach ValuedFrom
-each-valued em deck_words pending parked terms budget entry exit r ran = demand-on-valued deck_words pending parked terms budget entry exit r ran em
+each-valued em deck_words pending parked terms bars budget entry exit r ran = demand-on-valued deck_words pending parked terms bars budget entry exit r ran em
 
 module _ (deck_words : List ℕ) (deck : Deck) (opens : open_deck deck_words ≡ accepted deck) where
   -- From the goals that the first store began with to the answers of all of the runs and the goals open after the last.
@@ -322,8 +331,8 @@ module _ (deck_words : List ℕ) (deck : Deck) (opens : open_deck deck_words ≡
         → CarriedOn deck_words deck.symbols terms pending parked store_words listed left_open
         → (before : List Marked) → read_goals deck.symbols (pending + parked) store_words ≡ some before → Statement deck before (listed ++ left_open)
     carried-says (rests {left_open = ms} e) before b = subst (Statement deck before) (same_read b e) (lasts.same deck before)
-    carried-says {terms} (goes_on budget {pending} {parked} {store_words} {entry} {exit} {r} {listed} {later} {left_open} w ran answers rest) before b =
-        let d = each deck_words pending parked terms budget entry exit r ran in
+    carried-says {terms} (goes_on bars budget {pending} {parked} {store_words} {entry} {exit} {r} {listed} {later} {left_open} w ran answers rest) before b =
+        let d = each deck_words pending parked terms bars budget entry exit r ran in
         let same : d.deck ≡ deck = let e = d.opens in cc in
         let S : List Symbol = d.deck.symbols in
         let first = open-list S pending parked terms entry.store d.before (open-reads S pending parked terms entry.store d.before d.carries) in

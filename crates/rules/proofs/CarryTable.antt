@@ -8,7 +8,7 @@ use Rattle.rules.specs.Goals.{floundered, undecided}
 use Rattle.rules.specs.Evaluation.{Outcome, finished, budget}
 use Rattle.rules.specs.Run.{carry, carry_on, store_start}
 use Rattle.rules.specs.All.{rules}
-use Rattle.rules.proofs.Cases.{Line, shows, shown, words_of_run}
+use Rattle.rules.proofs.Cases.{Line, shows, shown, unbarred, words_of_run}
 use Rattle.rules.proofs.Table.{deck_l, deck_q}
 use Rattle.rules.proofs.MoreRuns.{deck_n}
 
@@ -29,7 +29,7 @@ carry-on deck pending parked terms words total expected =
 abbrev carried_on : Carry → Checked Outcome
 carried_on c =
     carry_on (carry c.deck c.pending c.parked c.terms (c.words ++ replicate (1024 - length c.words) 7) 8192)
-    c.budget 8192 1024
+    (unbarred c.deck) c.budget 8192 1024
 
 abbrev carried : Carry → Checked Line
 carried c = shown (carried_on c)

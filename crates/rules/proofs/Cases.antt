@@ -1,9 +1,10 @@
 -- A case of a table of runs: a deck, a query, the budget and the sizes, and what the run is to show.
 use Prim.Native.Nat.{ℕ}
 use mathlib.Core.List.{List, [], ◌∷◌}
-use lib.ListN.{length}
+use lib.ListN.{length, replicate}
 use Rattle.rules.specs.Goals.{Mark, Marked}
 use Rattle.rules.specs.Refusals.{Checked, refused, accepted}
+use Rattle.rules.specs.Decks.{header}
 use Rattle.rules.specs.Evaluation.{Stop, Outcome}
 use Rattle.rules.specs.Run.{run}
 
@@ -36,16 +37,20 @@ pub record Case : Type 0 where
   pub store_size : ℕ
   pub expected : Checked Line
 
-abbrev pub actual : Case → Checked Line
-actual c = shown (run c.deck c.query c.budget c.answer_room c.store_size 8192)
-
 -- With the program's answer list and store.
 abbrev pub case : List ℕ → List ℕ → ℕ → Checked Line → Case
 case deck query total expected = record { deck = deck; query = query; budget = total; answer_room = 8192; store_size = 16384; expected = expected }
 
--- What the run of a case comes to, and words of it.
+-- A member's list that bars nothing.
+abbrev pub unbarred : List ℕ → List ℕ
+unbarred deck_words = replicate (header deck_words 1) 0
+
+-- What the run of a case comes to, with nothing barred; what it shows, and words of it.
 abbrev pub outcome_of : Case → Checked Outcome
-outcome_of c = run c.deck c.query c.budget c.answer_room c.store_size 8192
+outcome_of c = run c.deck c.query (unbarred c.deck) c.budget c.answer_room c.store_size 8192
+
+abbrev pub actual : Case → Checked Line
+actual c = shown (outcome_of c)
 
 abbrev pub words_of_run : (Outcome → List ℕ) → Checked Outcome → List ℕ
 words_of_run words (refused n) = []

@@ -14,8 +14,9 @@ use Rattle.rules.specs.Refusals.{Refusal, loose_clause, loose_query, Checked, re
 use Rattle.rules.specs.Decks.{open_deck, read_query}
 use Rattle.rules.specs.Goals.{Marked, unmarked, write_goals, read_goals, query_variables, first_goal}
 use Rattle.rules.specs.Loose.{tight_query, tight_clauses, check_tight, check_tight_query}
+use Rattle.rules.specs.Rights.{check_rights}
 use Rattle.rules.specs.Evaluation.{Outcome, evaluate}
-use Rattle.rules.specs.Run.{check_sizes, run, Report, report, returned, answers_after, store_start, Slices, Filled, Leaves, run_on, Ran}
+use Rattle.rules.specs.Run.{run_from, check_sizes, run, Report, report, returned, answers_after, store_start, Slices, Filled, Leaves, run_on, Ran}
 use Rattle.rules.specs.Meaning.{Inds, Interpretation, Satisfies, individuals, QueryHolds, SomeCovers}
 use Rattle.rules.specs.ThreeValues.{◌≈◌, Interpretation3, Satisfies3, query_value, goals_value, ExcludedMiddle}
 use Rattle.rules.specs.Demand.{Read, Covered, Valued, Known, Said, Demand3}
@@ -58,15 +59,16 @@ tight-passed deck query u e =
     (required loose_clause (tight_clauses deck.clauses) d.1, required loose_query (tight_query query) d.2)
 
 pub run-accepted :
-    (deck_words query_words : List ℕ) (budget answer_room store_size scratch_size : ℕ) (o : Outcome) → run deck_words query_words budget answer_room store_size scratch_size ≡ accepted o
+    (deck_words query_words bars : List ℕ) (budget answer_room store_size scratch_size : ℕ) (o : Outcome) → run deck_words query_words bars budget answer_room store_size scratch_size ≡ accepted o
     → Accepted deck_words query_words budget answer_room store_size o
-unfolding run
-run-accepted deck_words query_words budget answer_room store_size scratch_size o e =
+unfolding run run_from
+run-accepted deck_words query_words bars budget answer_room store_size scratch_size o e =
     let d = passed (open_deck deck_words) _ e in
     let q = passed (read_query d.0 query_words) _ d.2 in
     let s = passed (check_sizes store_size scratch_size) _ q.2 in
     let t = passed (check_tight_query d.0 q.0) _ s.2 in
     let b = tight-passed d.0 q.0 t.0 t.1 in
+    let r = passed (check_rights d.0 bars _) _ t.2 in
     record { deck = d.0; query = q.0; opens = d.1; asks = q.1; tight_deck = b.0; tight_asked = b.1; evaluates = cc }
 
 -- Goals that are well formed are read from words that begin with their writing.
@@ -93,15 +95,15 @@ module _
     (Statement : Deck → List Literal → List Marked → List Marked → Type 1)
     (holds : (deck : Deck) (query : List Literal) → InOrder (vars_literals query) → (answer_room store_size total : ℕ)
     → let o = evaluate deck answer_room store_size (first_goal query ∷ []) [] total in Statement deck query (unmarked o.answers) (unmarked o.pending ++ o.parked))
-    (deck_words query_words : List ℕ) (budget : ℕ) (entry exit : Slices) (r : Report) where
-  run-says : Ran deck_words query_words budget entry (accepted r) exit → Said Statement deck_words query_words r exit
+    (deck_words query_words bars : List ℕ) (budget : ℕ) (entry exit : Slices) (r : Report) where
+  run-says : Ran deck_words query_words bars budget entry (accepted r) exit → Said Statement deck_words query_words r exit
   unfolding Leaves returned run_on
-  run-says ran = go (run_on deck_words query_words budget entry) refl ran.returns ran.leaves
+  run-says ran = go (run_on deck_words query_words bars budget entry) refl ran.returns ran.leaves
     where
-      go : (c : Checked Outcome) → run_on deck_words query_words budget entry ≡ c → accepted r ≡ returned c → Leaves c entry exit → Said Statement deck_words query_words r exit
+      go : (c : Checked Outcome) → run_on deck_words query_words bars budget entry ≡ c → accepted r ≡ returned c → Leaves c entry exit → Said Statement deck_words query_words r exit
       go (refused n) e back left = absurd (let z : ◌≡◌ {A = ℕ} 0 1 = cc in omega arith)
       go (accepted o) e back left =
-          let a = run-accepted deck_words query_words budget (length entry.answers) (length entry.store) (length entry.scratch) o e in
+          let a = run-accepted deck_words query_words bars budget (length entry.answers) (length entry.store) (length entry.scratch) o e in
           let same : r ≡ report o = cc in
           let deck : Deck = a.deck in
           let query : List Literal = a.query in
@@ -125,32 +127,32 @@ module _
 
 -- DEMAND 3
 pub demand-3 :
-    (deck_words query_words : List ℕ) (budget : ℕ) (entry exit : Slices) (r : Report) → Ran deck_words query_words budget entry (accepted r) exit
+    (deck_words query_words bars : List ℕ) (budget : ℕ) (entry exit : Slices) (r : Report) → Ran deck_words query_words bars budget entry (accepted r) exit
     → Demand3 deck_words query_words r exit
 demand-3 = run-says Covered (λ deck query ordered answer_room store_size total I sat choice many. query-covers query ordered choice many deck answer_room store_size total I sat)
 
 -- In three values, by excluded middle; and what needs none.
 pub demand-3-valued :
-    ExcludedMiddle → (deck_words query_words : List ℕ) (budget : ℕ) (entry exit : Slices) (r : Report) → Ran deck_words query_words budget entry (accepted r) exit
+    ExcludedMiddle → (deck_words query_words bars : List ℕ) (budget : ℕ) (entry exit : Slices) (r : Report) → Ran deck_words query_words bars budget entry (accepted r) exit
     → Said Valued deck_words query_words r exit
 demand-3-valued em = run-says Valued (λ deck query ordered answer_room store_size total I sat choice many. query-values query ordered choice many I deck sat answer_room store_size total em)
 
 pub demand-3-known :
-    (deck_words query_words : List ℕ) (budget : ℕ) (entry exit : Slices) (r : Report) → Ran deck_words query_words budget entry (accepted r) exit
+    (deck_words query_words bars : List ℕ) (budget : ℕ) (entry exit : Slices) (r : Report) → Ran deck_words query_words bars budget entry (accepted r) exit
     → Said Known deck_words query_words r exit
 demand-3-known = run-says Known (λ deck query ordered answer_room store_size total I sat choice many. query-stays query ordered choice many I deck sat answer_room store_size total)
 
 -- What a run returns: no more steps than its cost, and a cost of at most its budget (U6).
 pub ran-spends :
-    (deck_words query_words : List ℕ) (budget : ℕ) (entry exit : Slices) (r : Report) → Ran deck_words query_words budget entry (accepted r) exit
+    (deck_words query_words bars : List ℕ) (budget : ℕ) (entry exit : Slices) (r : Report) → Ran deck_words query_words bars budget entry (accepted r) exit
     → (r.steps ≤ r.cost) × (r.cost ≤ budget)
 unfolding returned run_on report
-ran-spends deck_words query_words budget entry exit r ran = go (run_on deck_words query_words budget entry) refl ran.returns
+ran-spends deck_words query_words bars budget entry exit r ran = go (run_on deck_words query_words bars budget entry) refl ran.returns
   where
-    go : (c : Checked Outcome) → run_on deck_words query_words budget entry ≡ c → accepted r ≡ returned c → (r.steps ≤ r.cost) × (r.cost ≤ budget)
+    go : (c : Checked Outcome) → run_on deck_words query_words bars budget entry ≡ c → accepted r ≡ returned c → (r.steps ≤ r.cost) × (r.cost ≤ budget)
     go (refused n) e back = absurd (let z : ◌≡◌ {A = ℕ} 0 1 = cc in omega arith)
     go (accepted o) e back =
-        let a = run-accepted deck_words query_words budget (length entry.answers) (length entry.store) (length entry.scratch) o e in
+        let a = run-accepted deck_words query_words bars budget (length entry.answers) (length entry.store) (length entry.scratch) o e in
         let first : List Goal = first_goal a.query ∷ [] in
         let same : report o ≡ r = cc in
         subst (λ (x : Report). (x.steps ≤ x.cost) × (x.cost ≤ budget)) same

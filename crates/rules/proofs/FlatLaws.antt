@@ -8,9 +8,12 @@ use native.Mathlib.Omega.{arith}
 use lib.Dec.{leb}
 use borrow.Author.Tests.{le-leb}
 use Rattle.rules.specs.Terms.{Term, var, app, Terms, nil, cons, vars_term, vars_terms}
-use Rattle.rules.specs.Syntax.{Symbol, Literal, pos, neg, map_literals, vars_literals}
+use Rattle.rules.specs.Syntax.{Symbol, Literal, pos, neg, Clause, Goal, map_literals, vars_literals}
 use Rattle.rules.specs.Cells.{write_term, write_terms, write_literals, Cell, variable, function, positive, negative, invalid, variable_cell, read_cell}
-use Rattle.rules.specs.WellFormed.{All, WfTerm, WfTerms, WfLiterals}
+use Rattle.rules.specs.Decks.{write_clause}
+use Rattle.rules.specs.Goals.{goal_cells}
+use Rattle.rules.specs.Rights.{predicates}
+use Rattle.rules.specs.WellFormed.{All, WfTerm, WfTerms, WfLiterals, WfClause}
 use Rattle.rules.specs.Loose.{positives, among, tight}
 use Rattle.rules.proofs.NextLaws.{either}
 unfoldable pub use Rattle.rules.specs.Loose.{standing_at, standing}
@@ -140,3 +143,23 @@ module _ (S : List Symbol) where
   literals-begin (neg p ts ∷ ls) w =
       ap (λ c. beginning_at c (beginning S (write_terms ts (write_literals ls)))) w.0.0
       ∙ ap (◌∷◌ (neg p nil)) (terms-begin ts (write_literals ls) w.0.1 ∙ literals-begin ls w.1)
+
+-- The predicates that cells name, in order. Of a clause: its head's, and then those of its body. Of a goal: those of its literals.
+abbrev pub named_cells : List Symbol → List ℕ → List ℕ
+named_cells S cells = predicates (beginning S cells)
+
+bare-predicates : (ls : List Literal) → predicates (map_literals (λ ts. nil) ls) ≡ predicates ls
+bare-predicates [] = refl
+bare-predicates (pos p ts ∷ ls) = ap (◌∷◌ p) (bare-predicates ls)
+bare-predicates (neg p ts ∷ ls) = ap (◌∷◌ p) (bare-predicates ls)
+
+pub literals-name : (S : List Symbol) (ls : List Literal) → WfLiterals S ls → named_cells S (write_literals ls) ≡ predicates ls
+literals-name S ls w = ap predicates (literals-begin S ls w) ∙ bare-predicates ls
+
+pub clause-names : (S : List Symbol) (c : Clause) → WfClause S c → named_cells S (write_clause c) ≡ c.predicate ∷ predicates c.body
+unfolding write_clause
+clause-names S c w = literals-name S (pos c.predicate c.arguments ∷ c.body) w.literals
+
+pub goal-names : (S : List Symbol) (g : Goal) → WfTerms S g.answers → WfLiterals S g.literals → named_cells S (goal_cells g) ≡ predicates g.literals
+unfolding goal_cells
+goal-names S g a l = ap predicates (terms-begin S g.answers (write_literals g.literals) a) ∙ literals-name S g.literals l

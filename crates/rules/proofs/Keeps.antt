@@ -127,7 +127,7 @@ module _ (J : Invariant) where
         → All J.pending gs × Makes J g a
     first-has {g = g} e h a = let k = subst (All J.pending) e h.pending in (k.1, makes J clauses g (kept g k.0) a)
 
-    ahead-has : {below left : ℕ} {at : Place} {l : Level} {n : Next} → Ahead clauses answer_room store_size below at l left n → LevelHas l → NextHas n
+    pub ahead-has : {below left : ℕ} {at : Place} {l : Level} {n : Next} → Ahead clauses answer_room store_size below at l left n → LevelHas l → NextHas n
     ahead-has (emptied e) h = tt
     ahead-has (unpaid e c) h = tt
     ahead-has (unlisted e c a f) h = tt

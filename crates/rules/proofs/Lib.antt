@@ -53,7 +53,14 @@ pub mod RankLaws
 pub mod RankSearch
 pub mod RankTelling
 pub mod RankRuns
--- Both tests on cells, and on the decks of the tables.
+-- Closed sites.
+pub mod Reach
+pub mod SameDecks
+pub mod ClosedSites
+pub mod MemberRuns
+pub mod ClosedRuns
+pub mod RightsTable
+-- The tests on cells, and on the decks of the tables.
 pub mod FlatLaws
 pub mod DeckCases
 pub mod GrowingRun

@@ -6,11 +6,11 @@ use Prim.Native.String.{String}
 use mathlib.Core.Path.{◌≡◌, refl}
 use mathlib.Core.List.{List, [], ◌∷◌, ◌++◌, map}
 use mathlib.Core.Option.{some, none}
-use lib.ListN.{replicate}
+use lib.ListN.{length, replicate}
 use Rattle.rules.specs.Terms.{var, app, nil, cons}
 use Rattle.rules.specs.Syntax.{Goal}
 use Rattle.rules.specs.Evaluation.{finished, budget, answers, store}
-use Rattle.rules.specs.Refusals.{bad_header, bad_symbol, bad_starts, long_clause, bad_clause, long_query, bad_query, bad_store, bad_scratch, loose_clause, loose_query, refused, accepted, and_then, require, obtain, checked_number}
+use Rattle.rules.specs.Refusals.{bad_header, bad_symbol, bad_starts, long_clause, bad_clause, long_query, bad_query, bad_store, bad_scratch, loose_clause, loose_query, bad_bars, barred_reached, refused, accepted, and_then, require, obtain, checked_number}
 use Rattle.rules.specs.Decks.{open_deck}
 use Rattle.rules.specs.Run.{run}
 use Rattle.rules.specs.Listing.{listing}
@@ -77,9 +77,9 @@ all-marks = refl
 
 -- The numbers of the refusals.
 pub refusals :
-    map (λ n. listing (refused n)) (bad_header ∷ bad_symbol ∷ bad_starts ∷ long_clause ∷ bad_clause ∷ long_query ∷ bad_query ∷ bad_store ∷ bad_scratch ∷ loose_clause ∷ loose_query ∷ [])
+    map (λ n. listing (refused n)) (bad_header ∷ bad_symbol ∷ bad_starts ∷ long_clause ∷ bad_clause ∷ long_query ∷ bad_query ∷ bad_store ∷ bad_scratch ∷ loose_clause ∷ loose_query ∷ bad_bars ∷ barred_reached ∷ [])
     ≡ text "refused 1\n" ∷ text "refused 2\n" ∷ text "refused 3\n" ∷ text "refused 4\n" ∷ text "refused 5\n" ∷ text "refused 6\n" ∷ text "refused 7\n"
-    ∷ text "refused 8\n" ∷ text "refused 9\n" ∷ text "refused 13\n" ∷ text "refused 14\n" ∷ []
+    ∷ text "refused 8\n" ∷ text "refused 9\n" ∷ text "refused 13\n" ∷ text "refused 14\n" ∷ text "refused 15\n" ∷ text "refused 16\n" ∷ []
 unfolding rules
 refusals = refl
 
@@ -124,8 +124,8 @@ pub program-order :
 unfolding rules
 program-order = refl
 
--- 3. THE PROGRAM'S NUMBERS: budget 100,000, answer list 8,192, store 16,384, scratch 8,192. Only the program is opened here, not the run.
+-- 3. THE PROGRAM'S NUMBERS: budget 100,000, answer list 8,192, store 16,384, scratch 8,192; nothing is barred. Only the program is opened here, not the run.
 pub program-numbers :
-    program_run (some bytes_l) (4 ∷ 0 ∷ 0 ∷ 128 ∷ []) ≡ and_then (open_deck deck_l) (λ _. run deck_l (4 ∷ 32768 ∷ []) 100000 8192 16384 8192)
+    program_run (some bytes_l) (4 ∷ 0 ∷ 0 ∷ 128 ∷ []) ≡ and_then (open_deck deck_l) (λ deck. run deck_l (4 ∷ 32768 ∷ []) (replicate (length deck.symbols) 0) 100000 8192 16384 8192)
 unfolding and_then require obtain words_from even deck_file query_input program_run
 program-numbers = refl

@@ -24,11 +24,11 @@ use Rattle.rules.proofs.TermLaws.{occ-same, occ-other}
 abbrev pub In : ℕ → List ℕ → Type 0
 In x xs = Memᴰ x xs
 
-or_cases : (a b : Bool) → (a || b) ≡ true → (a ≡ true) ⊎ (b ≡ true)
+pub or_cases : (a b : Bool) → (a || b) ≡ true → (a ≡ true) ⊎ (b ≡ true)
 or_cases true b e = inl refl
 or_cases false b e = inr e
 
-or_later_lem : (a b : Bool) → b ≡ true → (a || b) ≡ true
+pub or_later_lem : (a b : Bool) → b ≡ true → (a || b) ≡ true
 or_later_lem true b e = refl
 or_later_lem false b e = e
 

@@ -68,16 +68,16 @@ pub record Bounded (deck_words query_words : List ℕ) (budget answer_room store
   pub bounded : (below : ℕ) (at : Place) (l : Level) (left : Account) → FreshPasses deck answer_room store_size query budget below at l left
       → level_number below ≤ highest (listed ns) query
 
-module _ (deck_words query_words : List ℕ) (budget : ℕ) (entry exit : Slices) (r : Report) (ran : Ran deck_words query_words budget entry (accepted r) exit) where
+module _ (deck_words query_words bars : List ℕ) (budget : ℕ) (entry exit : Slices) (r : Report) (ran : Ran deck_words query_words bars budget entry (accepted r) exit) where
   pub ran-bounded : (old ns : List ℕ) → Levelled deck_words old (accepted given) ns → Bounded deck_words query_words budget (length entry.answers) (length entry.store) r ns
   unfolding returned run_on
-  ran-bounded old ns h = go (run_on deck_words query_words budget entry) refl ran.returns
+  ran-bounded old ns h = go (run_on deck_words query_words bars budget entry) refl ran.returns
     where
-      go : (c : Checked Outcome) → run_on deck_words query_words budget entry ≡ c → accepted r ≡ returned c
+      go : (c : Checked Outcome) → run_on deck_words query_words bars budget entry ≡ c → accepted r ≡ returned c
           → Bounded deck_words query_words budget (length entry.answers) (length entry.store) r ns
       go (refused n) e back = absurd (let z : ◌≡◌ {A = ℕ} 0 1 = cc in omega arith)
       go (accepted o) e back =
-          let a = run-accepted deck_words query_words budget (length entry.answers) (length entry.store) (length entry.scratch) o e in
+          let a = run-accepted deck_words query_words bars budget (length entry.answers) (length entry.store) (length entry.scratch) o e in
           let same : r ≡ report o = cc in
           record {
             deck = a.deck;

@@ -10,6 +10,7 @@ use Rattle.rules.specs.Refusals.{checked_number}
 use Rattle.rules.specs.Decks.{open_deck, check_query}
 use Rattle.rules.specs.Run.{run}
 use Rattle.rules.specs.All.{rules}
+use Rattle.rules.proofs.Cases.{unbarred}
 use Rattle.rules.proofs.Table.{deck_l}
 use Rattle.rules.proofs.MoreRuns.{nested}
 
@@ -105,7 +106,7 @@ queries = refl
 
 -- 8 and 9. The store's size, and the scratch's.
 abbrev pub lends : ℕ → ℕ → ℕ
-lends store_size scratch_size = checked_number (run deck_l [] 0 0 store_size scratch_size)
+lends store_size scratch_size = checked_number (run deck_l [] (unbarred deck_l) 0 0 store_size scratch_size)
 
 pub sizes :
     map (λ n. lends n 8192) (1023 ∷ 1024 ∷ 65535 ∷ 65536 ∷ []) ++ map (lends 1024) (8191 ∷ 8192 ∷ 8193 ∷ [])
@@ -135,7 +136,10 @@ unfolding rules
 loose-queries = refl
 
 -- Two faults at once: 1 and 2, 2 and 3, 3 and 4; 4 and 5, the later clause too long and the earlier one misnumbered, and the other way round;
--- 5 and 6, 6 and 7, 7 and 8, 8 and 9, 9 and 13, 9 and 14, 13 and 14.
+-- 5 and 6, 6 and 7, 7 and 8, 8 and 9, 9 and 13, 9 and 14, 13 and 14, 14 and 15, 15 and 16; 13 in a clause about a predicate that is barred and named.
+abbrev pub loose_deck : List ℕ
+loose_deck = deck_of symbols (0 ∷ []) (2 ∷ 32768 ∷ [])
+
 pub lower-number :
     opens (set (set deck_l 0 2) 8 16)
     ∷ opens (set (set deck_l 8 16) 13 1)
@@ -144,12 +148,15 @@ pub lower-number :
     ∷ opens (deck_of symbols (0 ∷ 257 ∷ []) ((2 ∷ nested 255) ++ (2 ∷ 32769 ∷ [])))
     ∷ checked_number (check_query (deck_of symbols (0 ∷ []) (0 ∷ [])) (replicate 501 3))
     ∷ asks (replicate 501 0)
-    ∷ checked_number (run deck_l (0 ∷ []) 0 0 0 8192)
+    ∷ checked_number (run deck_l (0 ∷ []) (unbarred deck_l) 0 0 0 8192)
     ∷ lends 0 0
-    ∷ checked_number (run (deck_of symbols (0 ∷ []) (2 ∷ 32768 ∷ [])) [] 0 0 1024 0)
-    ∷ checked_number (run deck_l (16387 ∷ 32768 ∷ []) 0 0 1024 0)
-    ∷ checked_number (run (deck_of symbols (0 ∷ []) (2 ∷ 32768 ∷ [])) (16386 ∷ 32768 ∷ []) 0 0 1024 8192)
+    ∷ checked_number (run loose_deck [] (unbarred loose_deck) 0 0 1024 0)
+    ∷ checked_number (run deck_l (16387 ∷ 32768 ∷ []) (unbarred deck_l) 0 0 1024 0)
+    ∷ checked_number (run loose_deck (16386 ∷ 32768 ∷ []) (unbarred loose_deck) 0 0 1024 8192)
+    ∷ checked_number (run deck_l (16387 ∷ 32768 ∷ []) [] 0 0 1024 8192)
+    ∷ checked_number (run deck_l (4 ∷ 32768 ∷ []) (1 ∷ 0 ∷ 0 ∷ 0 ∷ 1 ∷ []) 0 0 1024 8192)
+    ∷ checked_number (run loose_deck (2 ∷ 0 ∷ []) (0 ∷ 0 ∷ 1 ∷ 0 ∷ []) 0 0 1024 8192)
     ∷ []
-    ≡ 1 ∷ 2 ∷ 3 ∷ 4 ∷ 4 ∷ 5 ∷ 6 ∷ 7 ∷ 8 ∷ 9 ∷ 9 ∷ 13 ∷ []
+    ≡ 1 ∷ 2 ∷ 3 ∷ 4 ∷ 4 ∷ 5 ∷ 6 ∷ 7 ∷ 8 ∷ 9 ∷ 9 ∷ 13 ∷ 14 ∷ 15 ∷ 13 ∷ []
 unfolding rules
 lower-number = refl

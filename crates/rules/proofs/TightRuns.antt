@@ -60,15 +60,15 @@ pending-unfloundered : (gs : List Goal) → All Unfloundered (unmarked gs)
 pending-unfloundered [] = tt
 pending-unfloundered (g ∷ gs) = (λ e. let z : ◌≡◌ {A = ℕ} 0 1 = cc in omega arith, pending-unfloundered gs)
 
-module _ (deck_words query_words : List ℕ) (budget : ℕ) (entry exit : Slices) (r : Report) (ran : Ran deck_words query_words budget entry (accepted r) exit) where
+module _ (deck_words query_words bars : List ℕ) (budget : ℕ) (entry exit : Slices) (r : Report) (ran : Ran deck_words query_words bars budget entry (accepted r) exit) where
   ran-left : LeftBy deck_words query_words budget entry exit r
   unfolding Leaves returned run_on
-  ran-left = go (run_on deck_words query_words budget entry) refl ran.returns ran.leaves
+  ran-left = go (run_on deck_words query_words bars budget entry) refl ran.returns ran.leaves
     where
-      go : (c : Checked Outcome) → run_on deck_words query_words budget entry ≡ c → accepted r ≡ returned c → Leaves c entry exit → LeftBy deck_words query_words budget entry exit r
+      go : (c : Checked Outcome) → run_on deck_words query_words bars budget entry ≡ c → accepted r ≡ returned c → Leaves c entry exit → LeftBy deck_words query_words budget entry exit r
       go (refused n) e back left = absurd (let z : ◌≡◌ {A = ℕ} 0 1 = cc in omega arith)
       go (accepted o) e back left =
-          let a = run-accepted deck_words query_words budget (length entry.answers) (length entry.store) (length entry.scratch) o e in
+          let a = run-accepted deck_words query_words bars budget (length entry.answers) (length entry.store) (length entry.scratch) o e in
           let same : report o ≡ r = cc in
           let wf = (opened-written deck_words a.deck a.opens).1 in
           let first = first_goal-wf a.deck.symbols a.query (query-reads a.deck query_words a.query a.asks).1 in

@@ -1,4 +1,4 @@
--- What the programs that keep open goals and carry on from them print and write, for the bytes of their input (document 02, U4).
+-- What the programs that keep open goals and carry on from them print and write, for the bytes of their input (document 02, U4), and for whom (U9).
 use Rattle.std.specs.Prelude.{ℕ, zero, suc, ◌+◌, ◌-◌, ◌*◌, ◌/◌, ◌%◌, min, true, false, ◌&&◌, List, [], ◌∷◌, ◌++◌, length, drop, replicate, leb}
 use Rattle.std.proofs.Math.Option.{Option, none, some}
 use Rattle.rules.specs.Refusals.{bad_goals, Checked, refused, accepted, and_then as ◌>>=◌, require, obtain}
@@ -46,18 +46,25 @@ deck_input file = do
   _ ← open_deck deck_words
   accepted deck_words
 
--- As the program, with a budget; the query's variables are the answer terms.
-unfoldable pub open_words : List ℕ → List ℕ → ℕ → Checked Kept
-open_words deck_words query_words budget = do
-  outcome ← run deck_words query_words budget 8192 16384 8192
+-- The member's list for a deck of so many symbols, from the bytes of a file. Without a file nothing is barred. An odd byte count or more than 8,192
+-- bytes are taken for an empty list, which is too short for every deck: so they are 15, after all other checks but 16.
+unfoldable pub bars_from : ℕ → Option (List ℕ) → List ℕ
+bars_from symbols none = replicate symbols 0
+bars_from symbols (some bytes) = elim (even bytes && leb (length bytes) 8192) [ true ↦ words_from bytes | false ↦ [] ]
+
+-- As the program, with a member's list and a budget; the query's variables are the answer terms.
+unfoldable pub open_words : List ℕ → List ℕ → Option (List ℕ) → ℕ → Checked Kept
+open_words deck_words query_words bars budget = do
+  deck ← open_deck deck_words
+  outcome ← run deck_words query_words (bars_from (length deck.symbols) bars) budget 8192 16384 8192
   query ← check_query deck_words query_words
   accepted (record { outcome = outcome; terms = length (query_variables query) })
 
-unfoldable pub open_run : Option (List ℕ) → List ℕ → ℕ → Checked Kept
-open_run file input budget = do
+unfoldable pub open_run : Option (List ℕ) → List ℕ → Option (List ℕ) → ℕ → Checked Kept
+open_run file input bars budget = do
   deck_words ← deck_input file
   query_words ← query_input input
-  open_words deck_words query_words budget
+  open_words deck_words query_words bars budget
 
 -- A missing file of goals, an odd byte count, fewer bytes than the three numbers take or more than fit the store are 12.
 unfoldable pub goals_input : Option (List ℕ) → Checked (List ℕ)
@@ -71,18 +78,20 @@ unfoldable pub store_from : List ℕ → List ℕ
 store_from words = words ++ drop (length words) (replicate 16384 0)
 
 -- The file has the numbers of pending goals, of parked ones and of answer terms, each of 64 bits, and then the goals' words.
-unfoldable pub carry_bytes : List ℕ → List ℕ → ℕ → Checked Kept
-carry_bytes deck_words bytes budget = do
+unfoldable pub carry_bytes : List ℕ → List ℕ → Option (List ℕ) → ℕ → Checked Kept
+carry_bytes deck_words bytes bars budget = do
+  deck ← open_deck deck_words
   let terms = number_from 8 (drop 16 bytes)
   let store = store_from (words_from (drop 24 bytes))
-  outcome ← carry_on (carry deck_words (number_from 8 bytes) (number_from 8 (drop 8 bytes)) terms store 8192) budget 8192 16384
+  let list = bars_from (length deck.symbols) bars
+  outcome ← carry_on (carry deck_words (number_from 8 bytes) (number_from 8 (drop 8 bytes)) terms store 8192) list budget 8192 16384
   accepted (record { outcome = outcome; terms = terms })
 
-unfoldable pub carry_run : Option (List ℕ) → Option (List ℕ) → ℕ → Checked Kept
-carry_run file goals budget = do
+unfoldable pub carry_run : Option (List ℕ) → Option (List ℕ) → Option (List ℕ) → ℕ → Checked Kept
+carry_run file goals bars budget = do
   deck_words ← deck_input file
   bytes ← goals_input goals
-  carry_bytes deck_words bytes budget
+  carry_bytes deck_words bytes bars budget
 
 -- The listing of such a run.
 unfoldable pub kept_listing : Checked Kept → List ℕ

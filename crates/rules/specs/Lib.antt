@@ -13,6 +13,7 @@ pub mod Evaluation
 pub mod Passes
 pub mod Ranks
 pub mod Stored
+pub mod Rights
 pub mod Run
 pub mod Meaning
 pub mod ThreeValues

@@ -1,5 +1,5 @@
 -- What the program prints for the bytes of its two inputs (document 01, "The printed listing").
-use Rattle.std.specs.Prelude.{ℕ, ◌+◌, ◌*◌, ◌/◌, ◌%◌, Bool, ◌&&◌, List, [], ◌∷◌, length, leb, eqb}
+use Rattle.std.specs.Prelude.{ℕ, ◌+◌, ◌*◌, ◌/◌, ◌%◌, Bool, ◌&&◌, List, [], ◌∷◌, length, replicate, leb, eqb}
 use Rattle.std.proofs.Math.Option.{Option}
 use Rattle.rules.specs.Refusals.{bad_header, long_query, bad_query, Checked, accepted, and_then as ◌>>=◌, require, obtain}
 use Rattle.rules.specs.Decks.{open_deck}
@@ -35,13 +35,13 @@ query_input bytes = do
   _ ← require bad_query (even bytes)
   accepted (words_from bytes)
 
--- Budget 100,000, answer list 8,192, store 16,384, scratch 8,192. The deck is refused before anything is said of the query.
+-- Budget 100,000, answer list 8,192, store 16,384, scratch 8,192; nothing is barred. The deck is refused before anything is said of the query.
 unfoldable pub program_run : Option (List ℕ) → List ℕ → Checked Outcome
 program_run file input = do
   deck_words ← deck_file file
-  _ ← open_deck deck_words
+  deck ← open_deck deck_words
   query_words ← query_input input
-  run deck_words query_words 100000 8192 16384 8192
+  run deck_words query_words (replicate (length deck.symbols) 0) 100000 8192 16384 8192
 
 -- The deck file's bytes, if there is one, and the bytes of standard input.
 unfoldable pub program : Option (List ℕ) → List ℕ → List ℕ

@@ -2,8 +2,9 @@
 use Rattle.std.specs.Prelude.{ℕ, ◌≡◌, ◌&&◌, List, [], ◌∷◌, ◌++◌, length, take, drop, leb}
 use Rattle.rules.specs.Refusals.{bad_store, bad_scratch, bad_goals, Checked, refused, accepted, and_then as ◌>>=◌, require, obtain}
 use Rattle.rules.specs.Decks.{open_deck, read_query}
-use Rattle.rules.specs.Syntax.{Deck}
-use Rattle.rules.specs.Goals.{unmarked, write_goals, first_goal}
+use Rattle.rules.specs.Syntax.{Deck, Goal}
+use Rattle.rules.specs.Goals.{Marked, unmarked, write_goals, first_goal}
+use Rattle.rules.specs.Rights.{check_rights}
 use Rattle.rules.specs.Stored.{OpenGoals, read_open}
 use Rattle.rules.specs.Loose.{check_tight, check_tight_query}
 use Rattle.rules.specs.Evaluation.{Stop, Outcome, evaluate}
@@ -14,14 +15,20 @@ check_sizes store_size scratch_size = do
   _ ← require bad_store (leb 1024 store_size && leb store_size 65535)
   require bad_scratch (leb 8192 scratch_size)
 
--- The deck's and the query's words, the budget, and the lengths of the answer list, the store and the scratch.
-unfoldable pub run : List ℕ → List ℕ → ℕ → ℕ → ℕ → ℕ → Checked Outcome
-run deck_words query_words budget answer_room store_size scratch_size = do
+-- From open goals, for a member with the list `bars`: the last checks, and the evaluation.
+unfoldable pub run_from : Deck → List ℕ → List Goal → List Marked → ℕ → ℕ → ℕ → Checked Outcome
+run_from deck bars pending parked budget answer_room store_size = do
+  _ ← check_rights deck bars (unmarked pending ++ parked)
+  accepted (evaluate deck answer_room store_size pending parked budget)
+
+-- The deck's and the query's words, the member's list, the budget, and the lengths of the answer list, the store and the scratch.
+unfoldable pub run : List ℕ → List ℕ → List ℕ → ℕ → ℕ → ℕ → ℕ → Checked Outcome
+run deck_words query_words bars budget answer_room store_size scratch_size = do
   deck ← open_deck deck_words
   query ← read_query deck query_words
   _ ← check_sizes store_size scratch_size
   _ ← check_tight_query deck query
-  accepted (evaluate deck answer_room store_size (first_goal query ∷ []) [] budget)
+  run_from deck bars (first_goal query ∷ []) [] budget answer_room store_size
 
 -- The deck and the open goals in the store, for a run that carries on (U4): their two counts, and the number of answer terms.
 pub record Carried : Type 0 where
@@ -36,11 +43,11 @@ carry deck_words pending parked terms store_words scratch_size = do
   _ ← check_tight deck
   accepted (record { deck = deck; goals = goals })
 
--- A run that carries on: the budget and the lengths of the answer list and the store come after what is carried.
-unfoldable pub carry_on : Checked Carried → ℕ → ℕ → ℕ → Checked Outcome
-carry_on carried budget answer_room store_size = do
+-- A run that carries on: the member's list, the budget and the lengths of the answer list and the store come after what is carried.
+unfoldable pub carry_on : Checked Carried → List ℕ → ℕ → ℕ → ℕ → Checked Outcome
+carry_on carried bars budget answer_room store_size = do
   c ← carried
-  accepted (evaluate c.deck answer_room store_size c.goals.pending c.goals.parked budget)
+  run_from c.deck bars c.goals.pending c.goals.parked budget answer_room store_size
 
 -- An accepted run returns the stop, steps used over all levels and their cost, and the numbers of answers, pending and parked goals.
 pub record Report : Type 0 where
@@ -86,21 +93,21 @@ Leaves (refused n) entry exit = exit ≡ entry
 Leaves (accepted o) entry exit = Filled o entry exit
 
 -- The run on the slices that were lent; and the run that carries on from the open goals in the store.
-unfoldable pub run_on : List ℕ → List ℕ → ℕ → Slices → Checked Outcome
-run_on deck_words query_words budget s =
-    run deck_words query_words budget (length s.answers) (length s.store) (length s.scratch)
+unfoldable pub run_on : List ℕ → List ℕ → List ℕ → ℕ → Slices → Checked Outcome
+run_on deck_words query_words bars budget s =
+    run deck_words query_words bars budget (length s.answers) (length s.store) (length s.scratch)
 
-unfoldable pub carry_from : List ℕ → ℕ → ℕ → ℕ → ℕ → Slices → Checked Outcome
-carry_from deck_words pending parked terms budget s =
-    carry_on (carry deck_words pending parked terms s.store (length s.scratch)) budget (length s.answers) (length s.store)
+unfoldable pub carry_from : List ℕ → ℕ → ℕ → ℕ → List ℕ → ℕ → Slices → Checked Outcome
+carry_from deck_words pending parked terms bars budget s =
+    carry_on (carry deck_words pending parked terms s.store (length s.scratch)) bars budget (length s.answers) (length s.store)
 
 -- All that a call promises: what it returns, and what it leaves in each slice.
 pub record Gives (c : Checked Outcome) (entry : Slices) (result : Checked Report) (exit : Slices) : Type 0 where
   pub returns : result ≡ returned c
   pub leaves : Leaves c entry exit
 
-abbrev pub Ran : List ℕ → List ℕ → ℕ → Slices → Checked Report → Slices → Type 0
-Ran deck_words query_words budget entry result exit = Gives (run_on deck_words query_words budget entry) entry result exit
+abbrev pub Ran : List ℕ → List ℕ → List ℕ → ℕ → Slices → Checked Report → Slices → Type 0
+Ran deck_words query_words bars budget entry result exit = Gives (run_on deck_words query_words bars budget entry) entry result exit
 
-abbrev pub RanOn : List ℕ → ℕ → ℕ → ℕ → ℕ → Slices → Checked Report → Slices → Type 0
-RanOn deck_words pending parked terms budget entry result exit = Gives (carry_from deck_words pending parked terms budget entry) entry result exit
+abbrev pub RanOn : List ℕ → ℕ → ℕ → ℕ → List ℕ → ℕ → Slices → Checked Report → Slices → Type 0
+RanOn deck_words pending parked terms bars budget entry result exit = Gives (carry_from deck_words pending parked terms bars budget entry) entry result exit

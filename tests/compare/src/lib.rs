@@ -21,6 +21,8 @@ mod c {
             deck_words: usize,
             query: *const u16,
             query_words: usize,
+            bars: *const u16,
+            bar_words: usize,
             budget: u32,
             answers: *mut u16,
             answer_words: usize,
@@ -42,6 +44,8 @@ mod c {
             pending: u64,
             parked: u64,
             terms: u64,
+            bars: *const u16,
+            bar_words: usize,
             budget: u32,
             answers: *mut u16,
             answer_words: usize,
@@ -101,14 +105,16 @@ pub fn check(deck: &[u16], query: &[u16]) -> u32 {
     unsafe { c::leads_check(deck.as_ptr(), deck.len(), query.as_ptr(), query.len()) }
 }
 
-/// 0 and the report filled in, or the refusal's number, 1 to 9, 13 or 14, with nothing touched.
-pub fn run(deck: &[u16], query: &[u16], budget: u32, lent: Lent<'_>, report: &mut Report) -> u32 {
+/// 0 and the report filled in, or the refusal's number, 1 to 9 or 13 to 16, with nothing touched.
+pub fn run(deck: &[u16], query: &[u16], bars: &[u16], budget: u32, lent: Lent<'_>, report: &mut Report) -> u32 {
     unsafe {
         c::leads_run(
             deck.as_ptr(),
             deck.len(),
             query.as_ptr(),
             query.len(),
+            bars.as_ptr(),
+            bars.len(),
             budget,
             lent.answers.as_mut_ptr(),
             lent.answers.len(),
@@ -126,8 +132,8 @@ pub fn run(deck: &[u16], query: &[u16], budget: u32, lent: Lent<'_>, report: &mu
     }
 }
 
-/// Carries on from the goals at the start of the store: 0 and the report filled in, or the refusal's number, 1 to 5, 8, 9, 12 or 13, with nothing touched.
-pub fn carry_on(deck: &[u16], given: Given, budget: u32, lent: Lent<'_>, report: &mut Report) -> u32 {
+/// Carries on from the goals at the start of the store: 0 and the report filled in, or the refusal's number, 1 to 5, 8, 9, 12, 13, 15 or 16, with nothing touched.
+pub fn carry_on(deck: &[u16], given: Given, bars: &[u16], budget: u32, lent: Lent<'_>, report: &mut Report) -> u32 {
     unsafe {
         c::leads_continue(
             deck.as_ptr(),
@@ -135,6 +141,8 @@ pub fn carry_on(deck: &[u16], given: Given, budget: u32, lent: Lent<'_>, report:
             given.pending,
             given.parked,
             given.terms,
+            bars.as_ptr(),
+            bars.len(),
             budget,
             lent.answers.as_mut_ptr(),
             lent.answers.len(),
@@ -189,17 +197,18 @@ impl Engine for Leads {
         &self,
         deck: &[u16],
         query: &[u16],
+        bars: &[u16],
         budget: u32,
         lent: Lent<'_>,
         report: &mut Report,
     ) -> u32 {
-        run(deck, query, budget, lent, report)
+        run(deck, query, bars, budget, lent, report)
     }
 }
 
 impl second::carry::judge::Engine for Leads {
-    fn carry_on(&self, deck: &[u16], given: Given, budget: u32, lent: Lent<'_>, report: &mut Report) -> u32 {
-        carry_on(deck, given, budget, lent, report)
+    fn carry_on(&self, deck: &[u16], given: Given, bars: &[u16], budget: u32, lent: Lent<'_>, report: &mut Report) -> u32 {
+        carry_on(deck, given, bars, budget, lent, report)
     }
 }
 

@@ -10,6 +10,7 @@ use second::judge::{Engine as Runs, Lent, Report};
 use second::levels::judge as ranks;
 use second::levels::slips::SLIPS as RANKING;
 use second::loose::slips as loose;
+use second::rights::slips::SLIPS as RIGHTS;
 use second::text::judge::{Engine, Second};
 use second::text::slips::SLIPS;
 use std::slice::{from_raw_parts, from_raw_parts_mut};
@@ -24,7 +25,10 @@ static CONTINUES: LazyLock<&dyn Continues> = LazyLock::new(|| match slips::SLIPS
     Some(slip) => slip,
     None => match PAYING.iter().chain(&TRYING).find(|slip| named(slip.name)) {
         Some(slip) => slip,
-        None => &second::judge::Second,
+        None => match RIGHTS.iter().find(|slip| named(slip.name)) {
+            Some(slip) => slip,
+            None => &second::judge::Second,
+        },
     },
 });
 
@@ -32,7 +36,10 @@ static RUNS: LazyLock<&(dyn Runs + Sync)> = LazyLock::new(|| match loose::SLIPS.
     Some(slip) => slip,
     None => match PAYING.iter().chain(&TRYING).find(|slip| named(slip.name)) {
         Some(slip) => slip,
-        None => &second::judge::Second,
+        None => match RIGHTS.iter().find(|slip| named(slip.name)) {
+            Some(slip) => slip,
+            None => &second::judge::Second,
+        },
     },
 });
 
@@ -54,7 +61,9 @@ fn named(name: &str) -> bool {
         let paying = PAYING.iter().chain(&TRYING).map(|slip| slip.name);
         let drilling = DRILLING.iter().map(|slip| slip.name);
         let ranking = RANKING.iter().map(|slip| slip.name);
-        let mut all = texts.chain(slips::SLIPS.iter().map(|slip| slip.name)).chain(runs).chain(paying).chain(drilling).chain(ranking);
+        let rights = RIGHTS.iter().map(|slip| slip.name);
+        let runs = runs.chain(paying).chain(drilling).chain(ranking).chain(rights);
+        let mut all = texts.chain(slips::SLIPS.iter().map(|slip| slip.name)).chain(runs);
         assert!(all.any(|one| one == wanted), "no slip of this name");
         wanted == name
     })
@@ -88,6 +97,8 @@ pub unsafe extern "C" fn leads_run(
     deck_words: usize,
     query: *const u16,
     query_words: usize,
+    bars: *const u16,
+    bar_words: usize,
     budget: u32,
     answers: *mut u16,
     answer_words: usize,
@@ -104,13 +115,14 @@ pub unsafe extern "C" fn leads_run(
 ) -> u32 {
     let deck = from_raw_parts(deck, deck_words);
     let query = from_raw_parts(query, query_words);
+    let bars = from_raw_parts(bars, bar_words);
     let lent = Lent {
         answers: from_raw_parts_mut(answers, answer_words),
         store: from_raw_parts_mut(store, store_words),
         scratch: from_raw_parts_mut(scratch, scratch_words),
     };
     let mut report = Report::default();
-    let number = RUNS.run(deck, query, budget, lent, &mut report);
+    let number = RUNS.run(deck, query, bars, budget, lent, &mut report);
     if number == 0 {
         (*stop, *steps, *cost, *answer_count) = (report.stop, report.steps, report.cost, report.answers);
         (*pending, *parked) = (report.pending, report.parked);
@@ -128,6 +140,8 @@ pub unsafe extern "C" fn leads_continue(
     pending: u64,
     parked: u64,
     terms: u64,
+    bars: *const u16,
+    bar_words: usize,
     budget: u32,
     answers: *mut u16,
     answer_words: usize,
@@ -144,6 +158,7 @@ pub unsafe extern "C" fn leads_continue(
 ) -> u32 {
     let deck = from_raw_parts(deck, deck_words);
     let given = Given { pending, parked, terms };
+    let bars = from_raw_parts(bars, bar_words);
     let lent = Lent {
         answers: from_raw_parts_mut(answers, answer_words),
         store: from_raw_parts_mut(store, store_words),
@@ -157,7 +172,7 @@ pub unsafe extern "C" fn leads_continue(
         pending: *pending_after,
         parked: *parked_after,
     };
-    let number = CONTINUES.carry_on(deck, given, budget, lent, &mut report);
+    let number = CONTINUES.carry_on(deck, given, bars, budget, lent, &mut report);
     (*stop, *steps, *cost, *answer_count) = (report.stop, report.steps, report.cost, report.answers);
     (*pending_after, *parked_after) = (report.pending, report.parked);
     number

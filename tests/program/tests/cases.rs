@@ -64,7 +64,8 @@ fn outcome(case: &Case) -> Option<second::Outcome> {
         return None;
     }
     let deck = words(case.inputs.deck.as_ref()?);
-    second::run(&deck, &words(&case.inputs.query), 100_000, 8_192, 16_384, 8_192).ok()
+    let bars = second::rights::no_bars(&deck);
+    second::run(&deck, &words(&case.inputs.query), &bars, 100_000, 8_192, 16_384, 8_192).ok()
 }
 
 #[test]

@@ -6,13 +6,13 @@ pub mod judge;
 pub mod program;
 mod shrink;
 pub mod slips;
-mod stored;
+pub(crate) mod stored;
 pub mod vectors;
 
 pub use case::CarryCase;
 
-use crate::cost::Slip;
 use crate::evaluation::{evaluate, Limits, Outcome};
+use crate::rights::Rules;
 
 /// What the caller says of the goals at the start of the store.
 #[derive(Clone, Copy, Debug, PartialEq, Eq)]
@@ -32,6 +32,8 @@ pub enum Refused {
     Goals(Fault),
     /// 13.
     Loose,
+    /// 15 or 16.
+    Rights(u32),
 }
 
 /// What is wrong with the first goal that is not well formed.
@@ -59,24 +61,25 @@ pub enum Fault {
 impl Refused {
     pub fn number(self) -> u32 {
         match self {
-            Refused::Before(number) => number,
+            Refused::Before(number) | Refused::Rights(number) => number,
             Refused::Goals(_) => 12,
             Refused::Loose => 13,
         }
     }
 }
 
-/// The evaluation from the store's goals, or the refusal 1 to 5, 8, 9, 12 or 13.
+/// The evaluation from the store's goals, or the refusal 1 to 5, 8, 9, 12, 13, 15 or 16.
 pub fn carry_on(
     deck: &[u16],
     store: &[u16],
     given: Given,
+    bars: &[u16],
     budget: u32,
     answer_words: usize,
     scratch_words: usize,
 ) -> Result<Outcome, Refused> {
     let sizes = (answer_words, scratch_words);
-    carry_with(deck, store, given, budget, sizes, Slip::None)
+    carry_with(deck, store, given, bars, budget, sizes, Rules::RIGHT)
 }
 
 /// The lengths of answers and scratch are `sizes`.
@@ -84,18 +87,20 @@ pub(crate) fn carry_with(
     deck: &[u16],
     store: &[u16],
     given: Given,
+    bars: &[u16],
     budget: u32,
     (answer_words, scratch_words): (usize, usize),
-    slip: Slip,
+    rules: Rules,
 ) -> Result<Outcome, Refused> {
     let deck = crate::deck::open(deck).map_err(Refused::Before)?;
     crate::lent(store.len(), scratch_words).map_err(Refused::Before)?;
     let start = stored::read(&deck.symbols, store, given).map_err(Refused::Goals)?;
-    crate::loose::deck(&deck).map_err(|_| Refused::Loose)?;
+    (rules.loose_clauses)(&deck).map_err(|_| Refused::Loose)?;
+    (rules.rights)(&deck, bars, &start).map_err(Refused::Rights)?;
     let limits = Limits {
         budget,
         answer_words,
         store_words: store.len(),
     };
-    Ok(evaluate(&deck, start, limits, slip))
+    Ok(evaluate(&deck, start, limits, rules.slip))
 }

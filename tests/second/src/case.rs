@@ -7,6 +7,8 @@ pub struct Case {
     pub name: String,
     pub deck: Vec<u16>,
     pub query: Vec<u16>,
+    /// The member's list.
+    pub bars: Vec<u16>,
     pub budget: u32,
     pub answer_words: usize,
     pub store_words: usize,
@@ -18,6 +20,7 @@ impl Case {
         crate::run(
             &self.deck,
             &self.query,
+            &self.bars,
             self.budget,
             self.answer_words,
             self.store_words,

@@ -34,6 +34,7 @@ pub trait Engine {
         &self,
         deck: &[u16],
         query: &[u16],
+        bars: &[u16],
         budget: u32,
         lent: Lent<'_>,
         report: &mut Report,
@@ -56,12 +57,13 @@ impl Engine for Second {
         &self,
         deck: &[u16],
         query: &[u16],
+        bars: &[u16],
         budget: u32,
         lent: Lent<'_>,
         report: &mut Report,
     ) -> u32 {
         let sizes = (lent.answers.len(), lent.store.len(), lent.scratch.len());
-        match crate::run(deck, query, budget, sizes.0, sizes.1, sizes.2) {
+        match crate::run(deck, query, bars, budget, sizes.0, sizes.1, sizes.2) {
             Err(number) => number,
             Ok(outcome) => {
                 *report = report_of(&outcome);
@@ -110,7 +112,14 @@ pub fn judge_run(engine: &dyn Engine, case: &Case) -> Result<Left, String> {
         scratch: scratch.lent(),
     };
     let mut report = Report::default();
-    let number = engine.run(&case.deck, &case.query, case.budget, lent, &mut report);
+    let number = engine.run(
+        &case.deck,
+        &case.query,
+        &case.bars,
+        case.budget,
+        lent,
+        &mut report,
+    );
     match case.run() {
         Err(expected) => {
             same("refusal", &number, &expected)?;

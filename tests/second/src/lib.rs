@@ -19,6 +19,7 @@ pub mod loose;
 pub mod query;
 pub mod random;
 pub mod reader;
+pub mod rights;
 pub mod shrink;
 pub mod terms;
 pub mod text;
@@ -30,8 +31,8 @@ pub use case::Case;
 pub use evaluation::{Outcome, Stop};
 pub use listing::program;
 
-use cost::Slip;
 use evaluation::{Limits, Start};
+use rights::Rules;
 
 const STORE_WORDS: std::ops::RangeInclusive<usize> = 1_024..=65_535;
 const LEAST_SCRATCH: usize = 8_192;
@@ -52,10 +53,11 @@ fn checked(deck: &[u16], query: &[u16], checks: loose::Checks) -> Result<(), u32
     checks(&deck, &query)
 }
 
-/// The result of a run, or the refusal 1 to 9, 13 or 14.
+/// The result of a run, or the refusal 1 to 9 or 13 to 16.
 pub fn run(
     deck: &[u16],
     query: &[u16],
+    bars: &[u16],
     budget: u32,
     answer_words: usize,
     store_words: usize,
@@ -66,23 +68,24 @@ pub fn run(
         answer_words,
         store_words,
     };
-    run_with(deck, query, limits, scratch_words, loose::both, Slip::None)
+    run_with(deck, query, bars, limits, scratch_words, Rules::RIGHT)
 }
 
 fn run_with(
     deck: &[u16],
     query: &[u16],
+    bars: &[u16],
     limits: Limits,
     scratch_words: usize,
-    checks: loose::Checks,
-    slip: Slip,
+    rules: Rules,
 ) -> Result<Outcome, u32> {
     let deck = deck::open(deck)?;
     let query = query::read(&deck, query)?;
     lent(limits.store_words, scratch_words)?;
-    checks(&deck, &query)?;
+    (rules.loose)(&deck, &query)?;
     let start = Start::fresh(query);
-    Ok(evaluation::evaluate(&deck, start, limits, slip))
+    (rules.rights)(&deck, bars, &start)?;
+    Ok(evaluation::evaluate(&deck, start, limits, rules.slip))
 }
 
 /// Refusals 8 and 9.

@@ -2,6 +2,7 @@
 
 use crate::evaluation::{Outcome, Stop};
 use crate::reader::Symbol;
+use crate::rights::no_bars;
 use crate::terms::VARIABLE;
 use crate::{deck, query, run};
 
@@ -11,10 +12,11 @@ pub const SCRATCH: usize = 8_192;
 pub const ANSWERS: usize = 8_192;
 const MOST_DECK_BYTES: usize = 32_768;
 const MOST_QUERY_BYTES: usize = 1_000;
+const MOST_BAR_BYTES: usize = 8_192;
 
 /// What the program prints; no deck stands for a missing file.
 pub fn program(deck_bytes: Option<&[u8]>, query_bytes: &[u8]) -> Vec<u8> {
-    match asked(deck_bytes, query_bytes, BUDGET) {
+    match asked(deck_bytes, query_bytes, None, BUDGET) {
         Ok(asked) => listing(&asked.symbols, &asked.outcome).into_bytes(),
         Err(number) => format!("refused {number}\n").into_bytes(),
     }
@@ -37,7 +39,21 @@ pub fn deck_words(bytes: Option<&[u8]>) -> Result<Vec<u16>, u32> {
     Ok(words(bytes))
 }
 
-pub fn asked(deck_bytes: Option<&[u8]>, query_bytes: &[u8], budget: u32) -> Result<Asked, u32> {
+/// A member's list from its file. Without one nothing is barred; what is not words, or too many, is 15, as no list at all is.
+pub fn bar_words(deck: &[u16], file: Option<&[u8]>) -> Vec<u16> {
+    match file {
+        None => no_bars(deck),
+        Some(bytes) if bytes.len() % 2 == 1 || bytes.len() > MOST_BAR_BYTES => Vec::new(),
+        Some(bytes) => words(bytes),
+    }
+}
+
+pub fn asked(
+    deck_bytes: Option<&[u8]>,
+    query_bytes: &[u8],
+    bars: Option<&[u8]>,
+    budget: u32,
+) -> Result<Asked, u32> {
     let deck_words = deck_words(deck_bytes)?;
     let deck = deck::open(&deck_words)?;
     if query_bytes.len() > MOST_QUERY_BYTES {
@@ -48,7 +64,15 @@ pub fn asked(deck_bytes: Option<&[u8]>, query_bytes: &[u8], budget: u32) -> Resu
     }
     let query_words = words(query_bytes);
     let terms = query::read(&deck, &query_words)?.variables;
-    let outcome = run(&deck_words, &query_words, budget, ANSWERS, STORE, SCRATCH)?;
+    let outcome = run(
+        &deck_words,
+        &query_words,
+        &bar_words(&deck_words, bars),
+        budget,
+        ANSWERS,
+        STORE,
+        SCRATCH,
+    )?;
     Ok(Asked {
         symbols: deck.symbols,
         outcome,

@@ -6,6 +6,7 @@ pub(crate) mod dice;
 mod families;
 pub mod levels;
 mod limits;
+pub(crate) mod members;
 mod programs;
 mod rows;
 mod signature;
@@ -120,6 +121,7 @@ fn made(seed: u64, mut dice: Dice, family: &Family) -> Case {
         damage::damage(&mut dice, world, &mut case);
         case.name.push_str("-damaged");
     }
+    case.bars = members::for_query(&mut Dice::new(seed ^ 0xba55), &case);
     case
 }
 

@@ -1,6 +1,7 @@
 //! Makes a failing case smaller while it still fails.
 
 use crate::case::Case;
+use crate::rights::no_bars;
 use crate::terms::{NEGATED, VARIABLE};
 use crate::world::{renumber, World};
 
@@ -13,7 +14,8 @@ enum Candidate {
 
 type Pass = fn(&Case, usize) -> Candidate;
 
-const PASSES: [Pass; 9] = [
+const PASSES: [Pass; 10] = [
+    unbar,
     cut_clauses,
     cut_query_literal,
     cut_body_literal,
@@ -55,9 +57,9 @@ fn run_pass(case: Case, pass: Pass, still_fails: &dyn Fn(&Case) -> bool) -> Case
 
 fn weight(case: &Case) -> (usize, usize, u64) {
     let words = case.deck.iter().chain(&case.query);
-    let sum = words.map(|word| *word as u64).sum();
+    let sum = words.chain(&case.bars).map(|word| *word as u64).sum();
     let sizes = case.answer_words + case.store_words + case.scratch_words;
-    let length = case.deck.len() + case.query.len();
+    let length = case.deck.len() + case.query.len() + case.bars.len();
     (length, case.budget as usize + sizes, sum)
 }
 
@@ -86,6 +88,17 @@ fn stretch(length: usize, number: usize) -> Option<std::ops::Range<usize>> {
         size /= 2;
     }
     None
+}
+
+/// Nothing barred, or one predicate less.
+fn unbar(case: &Case, number: usize) -> Candidate {
+    let mut next = case.clone();
+    match number {
+        0 => next.bars = no_bars(&case.deck),
+        at if at <= case.bars.len() => next.bars[at - 1] = 0,
+        _ => return Candidate::Past,
+    }
+    Candidate::Try(next)
 }
 
 fn cut_clauses(case: &Case, number: usize) -> Candidate {
@@ -217,7 +230,11 @@ fn cut_symbol(case: &Case, number: usize) -> Candidate {
         let later = |cell: &&mut u16| **cell < VARIABLE && **cell % NEGATED > symbol;
         part.iter_mut().filter(later).for_each(|cell| *cell -= 1);
     }
-    with_world(case, world)
+    let mut next = case.clone();
+    if number < next.bars.len() {
+        next.bars.remove(number);
+    }
+    with_world(&next, world)
 }
 
 fn cut_deck_words(case: &Case, number: usize) -> Candidate {

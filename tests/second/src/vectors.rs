@@ -70,6 +70,7 @@ fn parse_case<'a>(lines: &mut impl Iterator<Item = &'a str>) -> Result<(Case, Ex
     let deck = numbers(field(lines.next(), "deck")?)?;
     let query = numbers(field(lines.next(), "query")?)?;
     let sizes: Vec<usize> = numbers(field(lines.next(), "sizes")?)?;
+    let bars = numbers(field(lines.next(), "bars")?)?;
     let [budget, answer_words, store_words, scratch_words] = sizes[..] else {
         return Err(format!("{name}: four sizes expected"));
     };
@@ -79,6 +80,7 @@ fn parse_case<'a>(lines: &mut impl Iterator<Item = &'a str>) -> Result<(Case, Ex
         name,
         deck,
         query,
+        bars,
         budget,
         answer_words,
         store_words,
@@ -157,6 +159,7 @@ fn print_case(case: &Case) -> String {
         + &line("deck", &case.deck)
         + &line("query", &case.query)
         + &sizes
+        + &line("bars", &case.bars)
 }
 
 pub(crate) fn line(key: &str, words: &[u16]) -> String {

@@ -1,5 +1,6 @@
 //! Request U4, sentence by sentence.
 
+use second::rights::no_bars;
 use second::carry::{carry_on, Fault, Given, Refused};
 use second::random::case;
 use second::{Case, Outcome, Stop};
@@ -29,7 +30,7 @@ fn store(goals: &[&[u16]]) -> Vec<u16> {
 }
 
 fn go(goals: &[&[u16]], numbers: Given, budget: u32) -> Result<Outcome, Refused> {
-    carry_on(&L, &store(goals), numbers, budget, 8_192, 8_192)
+    carry_on(&L, &store(goals), numbers, &no_bars(&L), budget, 8_192, 8_192)
 }
 
 fn counts(outcome: &Outcome) -> (Stop, u32, usize, usize, usize, u32) {
@@ -92,7 +93,7 @@ fn held_are_all_given_goals() {
     let tight = |words: usize, budget: u32| {
         let mut store = [&lead[..], &parked, &FLOUNDERED].concat();
         store.resize(words, 0);
-        counts(&carry_on(&L, &store, given(1, 2, 1), budget, 0, 8_192).expect("a run"))
+        counts(&carry_on(&L, &store, given(1, 2, 1), &no_bars(&L), budget, 0, 8_192).expect("a run"))
     };
     assert_eq!(tight(1_025, 3), (Stop::Store, 0, 0, 1, 2, 0));
     assert_eq!(tight(1_027, 3), (Stop::Store, 0, 0, 1, 2, 0));
@@ -138,7 +139,7 @@ fn refused_with_12() {
 #[test]
 fn checks_go_in_order() {
     let number = |deck: &[u16], store: &[u16], scratch| {
-        let refused = carry_on(deck, store, given(1, 0, 9), 0, 0, scratch);
+        let refused = carry_on(deck, store, given(1, 0, 9), &no_bars(deck), 0, 0, scratch);
         refused.expect_err("a refusal").number()
     };
     let mut wrong = L;
@@ -158,7 +159,7 @@ fn loose_variables() {
     let mut loose = L;
     loose[28] = 32769;
     let number = |goals: &[&[u16]], numbers, scratch| {
-        let refused = carry_on(&loose, &store(goals), numbers, 9, 9, scratch);
+        let refused = carry_on(&loose, &store(goals), numbers, &no_bars(&loose), 9, 9, scratch);
         refused.expect_err("a refusal").number()
     };
     assert_eq!(number(&[&NOT_DRAWN_A], given(1, 0, 1), 8_192), 13);
@@ -220,7 +221,7 @@ fn continued(case: &Case, first: &Outcome, terms: u64) -> Outcome {
     store.resize(case.store_words, 0);
     let numbers = given(first.pending.len() as u64, first.parked.len() as u64, terms);
     let budget = u32::MAX;
-    carry_on(&case.deck, &store, numbers, budget, 8_192, 8_192).expect("what a run leaves")
+    carry_on(&case.deck, &store, numbers, &case.bars, budget, 8_192, 8_192).expect("what a run leaves")
 }
 
 fn variables(query: &[u16]) -> u64 {

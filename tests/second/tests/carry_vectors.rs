@@ -10,7 +10,7 @@ fn text() -> String {
 #[test]
 fn all_continued_runs_agree() {
     let cases = parse(&text()).expect("the file reads");
-    assert_eq!(cases.len(), 239);
+    assert_eq!(cases.len(), 233);
     for (case, expected) in &cases {
         assert_eq!(&result(case), expected, "{}", case.name);
     }

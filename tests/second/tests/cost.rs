@@ -1,5 +1,6 @@
 //! What budgets do: the cost of a run is just enough for it. Random cases reach every way in which a step cannot be paid.
 
+use second::rights::no_bars;
 use second::random::case;
 use second::world::World;
 use second::{Case, Outcome, Stop};
@@ -94,7 +95,7 @@ fn facts_are_matched_one_by_one() {
         };
         let deck = world.deck();
         let outcome =
-            second::run(&deck, &world.query, 100_000, 8_192, 16_384, 8_192).expect("accepted");
+            second::run(&deck, &world.query, &no_bars(&deck), 100_000, 8_192, 16_384, 8_192).expect("accepted");
         let found = facts.div_ceil(40) as u32;
         assert_eq!(
             (outcome.steps, outcome.cost),

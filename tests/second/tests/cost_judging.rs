@@ -4,6 +4,7 @@ use second::carry::comparison::Comparison;
 use second::cost::slips::{Continued, Slipping, AT_LARGE, SLIPS};
 use second::judge::judge;
 use second::random::case;
+use second::rights::no_bars;
 use second::{Case, Stop};
 
 const CASES: u64 = 8_000;
@@ -60,6 +61,7 @@ fn doubled(times: u16, budget: u32) -> Case {
     let (answer_words, store_words, scratch_words) = (8_192, 16_384, 8_192);
     Case {
         name,
+        bars: no_bars(&deck),
         deck,
         query,
         budget,

@@ -1,5 +1,6 @@
 //! The runs that document 01 states, as the requests of document 02 have changed them.
 
+use second::rights::no_bars;
 use second::vectors::{result, Expected};
 use second::world::World;
 use second::{program, Case};
@@ -16,6 +17,7 @@ fn case(deck: &[u16], query: &[u16], budget: u32) -> Case {
         name: String::new(),
         deck: deck.to_vec(),
         query: query.to_vec(),
+        bars: no_bars(deck),
         budget,
         answer_words: 8_192,
         store_words: 16_384,

@@ -1,5 +1,6 @@
 //! Terms that would be exponential when written out, and very deep ones.
 
+use second::rights::no_bars;
 use second::world::{renumber, World};
 use second::Outcome;
 
@@ -33,7 +34,7 @@ fn world(body: Vec<u16>) -> World {
 
 fn run(world: &World, budget: u32) -> Outcome {
     let deck = world.deck();
-    second::run(&deck, &world.query, budget, 8_192, 16_384, 8_192).expect("accepted")
+    second::run(&deck, &world.query, &no_bars(&deck), budget, 8_192, 16_384, 8_192).expect("accepted")
 }
 
 /// Variable `from` is a pair of the next, and so on.

@@ -1,6 +1,7 @@
 //! Long lists of clauses (request U7): what is tried is what is paid. Random cases reach rows at every stop and refusal.
 
 use second::random::case_of;
+use second::rights::no_bars;
 use second::vectors::{result, Expected};
 use second::world::World;
 use second::{Case, Stop};
@@ -29,6 +30,7 @@ fn run(clauses: Vec<Vec<u16>>, query: &[u16], budget: u32) -> String {
         name: String::new(),
         deck: world.deck(),
         query: query.to_vec(),
+        bars: no_bars(&world.deck()),
         budget,
         answer_words: 8_192,
         store_words: 16_384,
@@ -141,7 +143,7 @@ fn random_cases_reach_rows() {
             }
         }
     }
-    let refusals = (1..=9).chain([13, 14]);
+    let refusals = (1..=9).chain(13..=16);
     let mut wanted: BTreeSet<String> = refusals.map(|number| format!("refused {number}")).collect();
     let others = [
         "Finished",

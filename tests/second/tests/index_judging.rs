@@ -42,8 +42,9 @@ fn stated_runs_find_most() {
     let left = unfound(runs.into_iter().map(|(case, _)| case));
     let others = [
         "a variable head not in row 15",
+        "a variable head not in row 0",
         "an empty row stands for all",
-        "the 64th clause is in no row",
+        "the 129th clause is in no row",
     ];
     assert_eq!(left, others);
 }

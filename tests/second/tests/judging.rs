@@ -23,6 +23,7 @@ impl Engine for Faulty {
         &self,
         deck: &[u16],
         query: &[u16],
+        bars: &[u16],
         budget: u32,
         lent: Lent<'_>,
         report: &mut Report,
@@ -33,7 +34,7 @@ impl Engine for Faulty {
             store: &mut *lent.store,
             scratch: &mut *lent.scratch,
         };
-        let number = Second.run(deck, query, budget, again, report);
+        let number = Second.run(deck, query, bars, budget, again, report);
         (self.fault)(&mut lent, report, number)
     }
 }

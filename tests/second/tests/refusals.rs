@@ -1,5 +1,6 @@
 //! Each refusal at its border.
 
+use second::rights::no_bars;
 use second::world::World;
 use second::{check, open, run};
 
@@ -137,7 +138,7 @@ fn queries() {
 #[test]
 fn buffers() {
     let deck = base().deck();
-    let refused = |store, scratch| run(&deck, &[0], 9, 9, store, scratch).err();
+    let refused = |store, scratch| run(&deck, &[0], &no_bars(&deck), 9, 9, store, scratch).err();
     assert_eq!(refused(1_024, 8_192), None);
     assert_eq!(refused(65_535, 8_192), None);
     assert_eq!(refused(1_023, 8_192), Some(8));
@@ -157,7 +158,7 @@ fn loose_in_a_clause() {
         let mut world = with_clause(cells);
         world.symbols.extend([1, 258]);
         assert_eq!(open(&world.deck()), 0, "{cells:?}");
-        let ran = run(&world.deck(), &[0], 9, 9, 1_024, 8_192).err();
+        let ran = run(&world.deck(), &[0], &no_bars(&world.deck()), 9, 9, 1_024, 8_192).err();
         let number = check(&world.deck(), &[0]);
         assert_eq!(ran, Some(number).filter(|number| *number > 0), "{cells:?}");
         number
@@ -211,7 +212,7 @@ fn loose_in_a_query() {
     for query in loose {
         assert_eq!(check(&deck, query), 14, "{query:?}");
         assert_eq!(
-            run(&deck, query, 9, 9, 1_024, 8_192).err(),
+            run(&deck, query, &no_bars(&deck), 9, 9, 1_024, 8_192).err(),
             Some(14),
             "{query:?}"
         );
@@ -221,7 +222,7 @@ fn loose_in_a_query() {
 #[test]
 fn loose_after_all_others() {
     let deck = with_clause(&[1, X]).deck();
-    let refused = |query: &[u16], store, scratch| run(&deck, query, 9, 9, store, scratch).err();
+    let refused = |query: &[u16], store, scratch| run(&deck, query, &no_bars(&deck), 9, 9, store, scratch).err();
     assert_eq!(check(&deck, &[9; 501]), 6);
     assert_eq!(check(&deck, &[1]), 7);
     assert_eq!(refused(&[1], 1_024, 8_192), Some(7));
@@ -230,7 +231,7 @@ fn loose_after_all_others() {
     assert_eq!(refused(&[16_385, X], 1_024, 8_192), Some(13));
     assert_eq!(refused(&[], 1_024, 8_192), Some(13));
     assert_eq!(
-        run(&base().deck(), &[16_385, X], 9, 9, 1_024, 8_191).err(),
+        run(&base().deck(), &[16_385, X], &no_bars(&base().deck()), 9, 9, 1_024, 8_191).err(),
         Some(9)
     );
 }
@@ -249,5 +250,5 @@ fn lower_number_first() {
     deck[0] = 2;
     assert_eq!(open(&deck), 1);
     assert_eq!(check(&deck, &[9; 501]), 1);
-    assert_eq!(run(&deck, &[9; 501], 0, 0, 0, 0).err(), Some(1));
+    assert_eq!(run(&deck, &[9; 501], &no_bars(&deck), 0, 0, 0, 0).err(), Some(1));
 }

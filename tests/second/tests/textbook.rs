@@ -2,6 +2,7 @@
 //! equations from the front of a list, the term put in everywhere. Those
 //! taken are counted, the failing one included.
 
+use second::rights::no_bars;
 use second::random::Dice;
 use second::world::{renumber, World};
 
@@ -175,7 +176,8 @@ fn single_steps_agree() {
         };
         let (expected, cost) = derived(&world);
         let run = |budget| {
-            let outcome = second::run(&world.deck(), &world.query, budget, 0, 65_535, 8_192);
+            let (deck, query) = (world.deck(), &world.query);
+            let outcome = second::run(&deck, query, &no_bars(&deck), budget, 0, 65_535, 8_192);
             outcome.expect("a sound case")
         };
         let outcome = run(cost);

@@ -3,6 +3,7 @@
 use compare::Leads;
 use second::judge::{judge, Engine, Lent, Report};
 use second::random::case;
+use second::rights::{no_bars, pairs};
 use second::shrink::shrink;
 use second::vectors::{parse, print, result};
 use second::world::World;
@@ -21,7 +22,15 @@ fn main() {
     let start = Instant::now();
     std::thread::scope(|scope| {
         for odd in 0..2 {
-            scope.spawn(move || (first + odd..first + cases).step_by(2).for_each(|seed| hold(&case(seed))));
+            scope.spawn(move || {
+                for seed in (first + odd..first + cases).step_by(2) {
+                    let case = case(seed);
+                    hold(&case);
+                    if seed % 4 < 2 {
+                        hold_pair(&case, seed);
+                    }
+                }
+            });
         }
     });
     println!("{vectors} runs of the vectors and {cases} random cases agree, {:.0?}", start.elapsed());
@@ -134,7 +143,7 @@ fn timed(case: &Case) -> Duration {
     let (mut answers, mut store, mut scratch) = (vec![0; case.answer_words], vec![0; case.store_words], vec![0; case.scratch_words]);
     let lent = Lent { answers: &mut answers, store: &mut store, scratch: &mut scratch };
     let start = Instant::now();
-    Leads.run(&case.deck, &case.query, case.budget, lent, &mut Report::default());
+    Leads.run(&case.deck, &case.query, &case.bars, case.budget, lent, &mut Report::default());
     start.elapsed()
 }
 
@@ -158,7 +167,15 @@ fn roomy(name: &str, deck: &[u16], query: Vec<u16>) -> Case {
     assert!(second::check(deck, &query) == 0, "{name} is accepted");
     let (name, deck) = (name.to_string(), deck.to_vec());
     let (budget, answer_words, store_words, scratch_words) = (100_000, 8192, 65_535, 8192);
-    Case { name, deck, query, budget, answer_words, store_words, scratch_words }
+    Case { name, bars: no_bars(&deck), deck, query, budget, answer_words, store_words, scratch_words }
+}
+
+/// Two decks that differ only behind predicates that are barred to the member: the engine gives the same.
+fn hold_pair(case: &Case, seed: u64) {
+    if let Err(what) = pairs::judge(&Leads, case, seed) {
+        println!("{}, two decks: {what}", case.name);
+        std::process::exit(1);
+    }
 }
 
 fn hold(case: &Case) {

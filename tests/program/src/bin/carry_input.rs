@@ -1,5 +1,5 @@
-//! `carry_input [folder] [random cases]`: runs the programs `leads_open` and `carry_on` of a folder on decks, queries and files of goals of all
-//! kinds. Standard output and the goals left must be the second evaluator's, byte for byte, the exit status 0, and they must return.
+//! `carry_input [folder] [random cases]`: runs the programs `leads_open` and `carry_on` of a folder on decks, queries, members' lists and
+//! files of goals of all kinds. Standard output and the goals left must be the second evaluator's, byte for byte, the exit status 0, and they must return.
 
 use program::inputs::{bytes, L};
 use program::run::{built, Input, Program};
@@ -25,6 +25,7 @@ fn main() -> io::Result<()> {
     judge.kept(seeds)?;
     judge.carried(seeds)?;
     judge.damaged()?;
+    judge.listed()?;
     let runs: usize = judge.seen.values().sum();
     println!("{runs} runs of the programs over open goals agree, {:.0?}: {:?}", start.elapsed(), judge.seen);
     Ok(())
@@ -58,25 +59,28 @@ impl Judge {
         Ok(())
     }
 
-    /// Queries with budgets; a missing file is 100,000.
+    /// Queries with lists and budgets; without files nothing is barred, and the budget is 100,000.
     fn kept(&mut self, seeds: u64) -> io::Result<()> {
         let program = self.program("leads_open")?;
-        let mut asked = vec![("deck L".to_string(), bytes(&L), bytes(&[4, 32_768]), None)];
-        asked.extend((0..16).map(|budget| ("deck L".to_string(), bytes(&L), bytes(&[4, 32_768]), Some(budget))));
+        let mut asked = vec![("deck L".to_string(), bytes(&L), bytes(&[4, 32_768]), None, None)];
+        asked.extend((0..16).map(|budget| ("deck L".to_string(), bytes(&L), bytes(&[4, 32_768]), None, Some(budget))));
         for budget in [99_999, 100_000, 100_001, u32::MAX] {
-            asked.push(("deck L".to_string(), bytes(&L), bytes(&[4, 32_768]), Some(budget)));
+            asked.push(("deck L".to_string(), bytes(&L), bytes(&[4, 32_768]), None, Some(budget)));
         }
         for case in (0..seeds).map(case) {
-            asked.push((case.name, bytes(&case.deck), bytes(&case.query), Some(case.budget)));
+            for bars in [None, Some(bytes(&case.bars))] {
+                asked.push((case.name.clone(), bytes(&case.deck), bytes(&case.query), bars, Some(case.budget)));
+            }
         }
-        for (name, deck, query, budget) in asked {
-            let expected = open_program(Some(&deck), &query, budget.unwrap_or(100_000));
+        for (name, deck, query, bars, budget) in asked {
+            let expected = open_program(Some(&deck), &query, bars.as_deref(), budget.unwrap_or(100_000));
             program.put(&deck)?;
+            program.beside("bars", bars.as_deref())?;
             program.beside("budget", budget.map(|budget| budget.to_string()).as_deref().map(str::as_bytes))?;
             self.hold(&program, &name, Input::Pipe(&query), &expected)?;
         }
         program.clear()?;
-        self.hold(&program, "no deck", Input::Pipe(&[]), &open_program(None, &[], 0))
+        self.hold(&program, "no deck", Input::Pipe(&[]), &open_program(None, &[], None, 0))
     }
 
     /// The file of continued runs, random ones, and each carried on again from the goals that it left.
@@ -86,13 +90,17 @@ impl Judge {
         let vectors = parse(&text).map_err(io::Error::other)?.into_iter().map(|(case, _)| case);
         for case in vectors.chain((0..seeds).map(carry_case)) {
             let deck = bytes(&case.deck);
-            let mut left = Some(file(&case));
             program.put(&deck)?;
-            for _ in 0..2 {
-                let Some(goals) = left else {
-                    break;
-                };
-                left = self.carry(&program, &case.name, Some(&deck), Some(&goals), case.budget)?;
+            for bars in [None, Some(bytes(&case.bars))] {
+                program.beside("bars", bars.as_deref())?;
+                let mut left = Some(file(&case));
+                for _ in 0..2 {
+                    let Some(goals) = left else {
+                        break;
+                    };
+                    let given = (Some(deck.as_slice()), Some(goals.as_slice()), bars.as_deref());
+                    left = self.carry(&program, &case.name, given, case.budget)?;
+                }
             }
         }
         Ok(())
@@ -102,11 +110,10 @@ impl Judge {
         &mut self,
         program: &Program,
         name: &str,
-        deck: Option<&[u8]>,
-        goals: Option<&[u8]>,
+        (deck, goals, bars): Given,
         budget: u32,
     ) -> io::Result<Option<Vec<u8>>> {
-        let expected = carry_program(deck, goals, budget);
+        let expected = carry_program(deck, goals, bars, budget);
         program.beside("open.goals", goals)?;
         let digits = budget.to_string();
         self.hold(program, name, Input::Pipe(digits.as_bytes()), &expected)?;
@@ -118,34 +125,73 @@ impl Judge {
     fn damaged(&mut self) -> io::Result<()> {
         let program = self.program("carry_on")?;
         let deck = bytes(&L);
-        let (text, left) = open_program(Some(&deck), &bytes(&[4, 32_768]), 8);
+        let (text, left) = open_program(Some(&deck), &bytes(&[4, 32_768]), None, 8);
         let goals = left.expect("goals are left");
         assert!(text.starts_with(b"open"), "a run cut short");
         program.clear()?;
-        self.carry(&program, "no deck", None, Some(&goals), 9)?;
+        self.carry(&program, "no deck", (None, Some(&goals), None), 9)?;
         program.put(&deck)?;
-        self.carry(&program, "no file", Some(&deck), None, 9)?;
+        self.carry(&program, "no file", (Some(&deck), None, None), 9)?;
         for budget in [0, 1, 9, 100_000, u32::MAX] {
-            self.carry(&program, "deck L", Some(&deck), Some(&goals), budget)?;
+            self.carry(&program, "deck L", (Some(&deck), Some(&goals), None), budget)?;
         }
         for length in 0..goals.len() + 4 {
             let mut other = goals.clone();
             other.resize(length, 7);
-            self.carry(&program, &format!("{length} bytes"), Some(&deck), Some(&other), 9)?;
+            self.carry(&program, &format!("{length} bytes"), (Some(&deck), Some(&other), None), 9)?;
         }
         for at in 0..goals.len() {
             for change in [1, 16, 128] {
                 let mut other = goals.clone();
                 other[at] ^= change;
-                self.carry(&program, &format!("byte {at} otherwise"), Some(&deck), Some(&other), 9)?;
+                self.carry(&program, &format!("byte {at} otherwise"), (Some(&deck), Some(&other), None), 9)?;
             }
         }
         for length in [2 * STORE - 2, 2 * STORE - 1, 2 * STORE, 2 * STORE + 1, 2 * STORE + 2, 200_000] {
             let mut other = goals.clone();
             other.resize(24 + length, 0);
-            self.carry(&program, &format!("{length} bytes of goals"), Some(&deck), Some(&other), 9)?;
+            self.carry(&program, &format!("{length} bytes of goals"), (Some(&deck), Some(&other), None), 9)?;
         }
         self.crowds(&program, &deck)
+    }
+
+    /// Deck L with each list of words 0, 1 and 2, and with lists of all lengths, those of the room and beyond too.
+    fn listed(&mut self) -> io::Result<()> {
+        let mut lists: Vec<Vec<u8>> = (0..243).map(|number| bytes(&in_threes(number))).collect();
+        lists.extend((0..16).map(|length| vec![0; length]));
+        lists.extend([8_190, 8_191, 8_192, 8_193, 8_194, 200_000].map(|length| vec![0; length]));
+        self.asked_with(&lists)?;
+        self.carried_with(&lists)
+    }
+
+    fn asked_with(&mut self, lists: &[Vec<u8>]) -> io::Result<()> {
+        let program = self.program("leads_open")?;
+        let deck = bytes(&L);
+        program.put(&deck)?;
+        program.beside("budget", None)?;
+        for list in lists {
+            program.beside("bars", Some(list))?;
+            for query in [vec![], bytes(&[4, 32_768]), bytes(&[16_387, 0]), bytes(&[0])] {
+                let expected = open_program(Some(&deck), &query, Some(list), 100_000);
+                self.hold(&program, &shown(list), Input::Pipe(&query), &expected)?;
+            }
+        }
+        Ok(())
+    }
+
+    fn carried_with(&mut self, lists: &[Vec<u8>]) -> io::Result<()> {
+        let program = self.program("carry_on")?;
+        let deck = bytes(&L);
+        let goals = open_program(Some(&deck), &bytes(&[4, 32_768]), None, 8).1.expect("goals are left");
+        program.put(&deck)?;
+        for list in lists {
+            program.beside("bars", Some(list))?;
+            for goals in [None, Some(goals.as_slice())] {
+                self.carry(&program, &shown(list), (Some(&deck), goals, Some(list)), 9)?;
+            }
+            assert!(program.found("bars").as_ref() == Some(list), "{}: it was changed", shown(list));
+        }
+        Ok(())
     }
 
     /// As many goals as the store takes.
@@ -154,11 +200,23 @@ impl Judge {
             let counts = [goals, 0, 0].map(u64::to_le_bytes).concat();
             let crowd = [counts, bytes(&[2, 0].repeat(STORE / 2))].concat();
             for budget in [0, 10, 20_000] {
-                self.carry(program, &format!("{goals} goals"), Some(deck), Some(&crowd), budget)?;
+                self.carry(program, &format!("{goals} goals"), (Some(deck), Some(&crowd), None), budget)?;
             }
         }
         Ok(())
     }
+}
+
+/// The deck's file, the goals' and the list's.
+type Given<'a> = (Option<&'a [u8]>, Option<&'a [u8]>, Option<&'a [u8]>);
+
+fn shown(list: &[u8]) -> String {
+    format!("a list of {} bytes, {:?}", list.len(), &list[..list.len().min(10)])
+}
+
+/// Five words, 0 to 2.
+fn in_threes(number: u16) -> [u16; 5] {
+    [number % 3, number / 3 % 3, number / 9 % 3, number / 27 % 3, number / 81]
 }
 
 /// A file of goals: the three numbers, then the goals' words, and where they are not whole some words more.

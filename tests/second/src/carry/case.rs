@@ -10,6 +10,8 @@ pub struct CarryCase {
     /// The whole store.
     pub store: Vec<u16>,
     pub given: Given,
+    /// The member's list.
+    pub bars: Vec<u16>,
     pub budget: u32,
     pub answer_words: usize,
     pub scratch_words: usize,
@@ -21,6 +23,7 @@ impl CarryCase {
             &self.deck,
             &self.store,
             self.given,
+            &self.bars,
             self.budget,
             self.answer_words,
             self.scratch_words,

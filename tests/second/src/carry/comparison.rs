@@ -5,9 +5,11 @@ use super::shrink::small;
 use super::vectors::{parse, result};
 use super::{CarryCase, Given};
 use crate::judge::{judge_run, Left, Lent, Report};
+use crate::random::members::Members;
 use crate::random::carries::{
-    answer_words, budget, carry_case, everywhere, fill, limits, numbers, shapes, store_words,
+    answer_words, budget, carry_case, everywhere, fill, limits, lists, numbers, shapes, store_words,
 };
+use crate::case::Case;
 use crate::random::{case, Dice};
 use crate::terms::VARIABLE;
 use std::collections::BTreeMap;
@@ -75,13 +77,15 @@ impl<'a> Comparison<'a> {
         let terms = query.max().map_or(0, |last| (last - VARIABLE) as u64 + 1);
         let left =
             judge_run(self.engine, &first).map_err(|what| format!("{}: {what}", first.name))?;
+        let mut members = Members::new(seed);
         let Some(mut left) = left else {
-            return self.refused(first.deck, &mut dice);
+            return self.refused(first, &mut dice);
         };
         for number in 1..=MOST_CONTINUED {
-            let next = next(&mut dice, &first.deck, &left, terms);
+            let next = next(&mut dice, &first, &left, terms);
             let next = CarryCase {
                 name: format!("{}, continued {number}", first.name),
+                bars: members.next(&next),
                 ..next
             };
             let Some(then) = self.hold(&next)? else {
@@ -99,7 +103,7 @@ impl<'a> Comparison<'a> {
     }
 
     /// A deck that takes no query takes no goals either, unless the query was wrong.
-    fn refused(&mut self, deck: Vec<u16>, dice: &mut Dice) -> Result<(), String> {
+    fn refused(&mut self, first: Case, dice: &mut Dice) -> Result<(), String> {
         let given = Given {
             pending: dice.below(2) as u64,
             parked: 0,
@@ -107,9 +111,10 @@ impl<'a> Comparison<'a> {
         };
         let case = CarryCase {
             name: "a deck refused".to_string(),
-            deck,
+            deck: first.deck,
             store: [2, 0].repeat(*dice.pick(&[512, 512, 300])),
             given,
+            bars: first.bars,
             budget: budget(dice),
             answer_words: answer_words(dice),
             scratch_words: *dice.pick(&[8_192, 8_191]),
@@ -129,7 +134,14 @@ impl<'a> Comparison<'a> {
                 self.hold(&other)?;
             }
         }
-        Ok(())
+        self.lists()
+    }
+
+    /// Small decks with goals: every word of the member's list otherwise.
+    pub fn lists(&mut self) -> Result<(), String> {
+        let cases = shapes().into_iter().map(|shape| shape.case(150, 1_024));
+        let mut others = cases.flat_map(|case| lists(&case));
+        others.try_for_each(|case| self.hold(&case).map(|_| ()))
     }
 
     pub fn limits(&mut self) -> Result<(), String> {
@@ -165,13 +177,13 @@ impl<'a> Comparison<'a> {
         let mut report = Report::default();
         let start = Instant::now();
         self.engine
-            .carry_on(&case.deck, case.given, case.budget, lent, &mut report);
+            .carry_on(&case.deck, case.given, &case.bars, case.budget, lent, &mut report);
         start.elapsed()
     }
 }
 
 /// The goals left, in a store of another length: longer, just long enough, or at times too short.
-fn next(dice: &mut Dice, deck: &[u16], left: &(crate::Outcome, Vec<u16>), terms: u64) -> CarryCase {
+fn next(dice: &mut Dice, first: &Case, left: &(crate::Outcome, Vec<u16>), terms: u64) -> CarryCase {
     let (outcome, words) = left;
     let goals = outcome.store_start().len();
     let mut store = words.clone();
@@ -186,13 +198,14 @@ fn next(dice: &mut Dice, deck: &[u16], left: &(crate::Outcome, Vec<u16>), terms:
     }
     CarryCase {
         name: String::new(),
-        deck: deck.to_vec(),
+        deck: first.deck.clone(),
         store,
         given: Given {
             pending: outcome.pending.len() as u64,
             parked: outcome.parked.len() as u64,
             terms,
         },
+        bars: first.bars.clone(),
         budget: budget(dice),
         answer_words: answer_words(dice),
         scratch_words: 8_192,

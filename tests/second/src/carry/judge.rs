@@ -2,9 +2,11 @@
 
 use super::{carry_on, CarryCase, Fault, Given, Refused};
 use crate::evaluation::{Outcome, Stop};
+use crate::goals::Goal;
 use crate::guarded::Guarded;
 use crate::index::has_rows;
 use crate::judge::{put, report_of, same, Left, Lent, Report};
+use crate::rights::reach;
 use std::hint::black_box;
 
 /// The shape of the engine's call from C: 0 and the report filled in, or the refusal's number.
@@ -13,6 +15,7 @@ pub trait Engine: crate::judge::Engine + Sync {
         &self,
         deck: &[u16],
         given: Given,
+        bars: &[u16],
         budget: u32,
         lent: Lent<'_>,
         report: &mut Report,
@@ -25,12 +28,13 @@ impl Engine for crate::judge::Second {
         &self,
         deck: &[u16],
         given: Given,
+        bars: &[u16],
         budget: u32,
         lent: Lent<'_>,
         report: &mut Report,
     ) -> u32 {
         let sizes = (lent.answers.len(), lent.scratch.len());
-        match carry_on(deck, lent.store, given, budget, sizes.0, sizes.1) {
+        match carry_on(deck, lent.store, given, bars, budget, sizes.0, sizes.1) {
             Err(refused) => refused.number(),
             Ok(outcome) => {
                 *report = report_of(&outcome);
@@ -43,7 +47,7 @@ impl Engine for crate::judge::Second {
 }
 
 /// What some case must come to.
-pub const WANTED: [&str; 52] = [
+pub const WANTED: [&str; 65] = [
     "finished",
     "budget",
     "answers",
@@ -96,6 +100,19 @@ pub const WANTED: [&str; 52] = [
     "rows: no clause to try",
     "rows: 12",
     "rows: 13",
+    "15, too short",
+    "15, too long",
+    "15, a functor",
+    "15, another word",
+    "15, no goals",
+    "15 and 16",
+    "16",
+    "16, pending goals",
+    "16, parked goals",
+    "16, another pending goal than the first",
+    "16, the last parked goal",
+    "16, budget 0",
+    "something barred",
 ];
 
 /// Stand in results that are not to be written.
@@ -120,7 +137,7 @@ pub fn judge(engine: &dyn Engine, case: &CarryCase) -> Result<(Vec<&'static str>
         scratch: scratch.lent(),
     };
     let mut report = UNSET;
-    let number = engine.carry_on(black_box(&deck), case.given, case.budget, lent, &mut report);
+    let number = engine.carry_on(black_box(&deck), case.given, &case.bars, case.budget, lent, &mut report);
     let unchanged = *black_box(&deck) == case.deck;
     same("the deck is unchanged", &unchanged, &true)?;
     match case.run() {
@@ -169,6 +186,7 @@ fn reasons(case: &CarryCase, refused: Refused) -> Vec<&'static str> {
             return vec!["13", "13, no goals"]
         }
         Refused::Loose => return vec!["13"],
+        Refused::Rights(number) => return rights(case, number),
     };
     let mut labels = vec![match fault {
         Fault::End => "12, end of the store",
@@ -199,6 +217,50 @@ fn reasons(case: &CarryCase, refused: Refused) -> Vec<&'static str> {
     labels
 }
 
+/// 15 or 16: what is wrong with the list, or where it reaches.
+fn rights(case: &CarryCase, number: u32) -> Vec<&'static str> {
+    let Ok(deck) = crate::deck::open(&case.deck) else {
+        return Vec::new();
+    };
+    let Ok(start) = super::stored::read(&deck.symbols, &case.store, case.given) else {
+        return Vec::new();
+    };
+    let reached = |goals: &[&Goal]| {
+        let literals = goals.iter().flat_map(|goal| &goal.literals);
+        reach(&deck, &case.bars, literals).is_err()
+    };
+    let pending: Vec<&Goal> = start.pending.iter().collect();
+    let parked: Vec<&Goal> = start.parked.iter().map(|(goal, _)| goal).collect();
+    let fits = case.bars.len() == deck.symbols.len();
+    let none = pending.is_empty() && parked.is_empty();
+    let labels = match number {
+        15 => [
+            (case.bars.len() < deck.symbols.len(), "15, too short"),
+            (case.bars.len() > deck.symbols.len(), "15, too long"),
+            (fits && case.bars.iter().all(|bar| *bar <= 1), "15, a functor"),
+            (fits && case.bars.iter().any(|bar| *bar > 1), "15, another word"),
+            (none, "15, no goals"),
+            (reached(&pending) || reached(&parked), "15 and 16"),
+        ],
+        _ => [
+            (true, "16"),
+            (reached(&pending) && !reached(&parked), "16, pending goals"),
+            (!reached(&pending) && reached(&parked), "16, parked goals"),
+            (
+                pending.len() > 1 && !reached(&pending[..1]) && reached(&pending),
+                "16, another pending goal than the first",
+            ),
+            (
+                parked.len() > 1 && !reached(&parked[..parked.len() - 1]) && reached(&parked),
+                "16, the last parked goal",
+            ),
+            (case.budget == 0, "16, budget 0"),
+        ],
+    };
+    let so = labels.iter().filter(|(so, _)| *so);
+    so.map(|(_, label)| *label).collect()
+}
+
 fn ran_labels(case: &CarryCase, outcome: &Outcome) -> Vec<&'static str> {
     let stops = ["finished", "budget", "answers", "store"];
     let (given, watch) = (case.given, &outcome.watch);
@@ -212,6 +274,7 @@ fn ran_labels(case: &CarryCase, outcome: &Outcome) -> Vec<&'static str> {
         "rows: store",
     ];
     let more = [
+        (case.bars.contains(&1), "something barred"),
         (rows, over_rows[outcome.stop as usize]),
         (rows && unpaid, "rows: a step not paid, budget left"),
         (watch.empty_rows.get() > 0, "rows: no clause to try"),

@@ -2,7 +2,7 @@
 
 use super::{carry_on, Given, Refused};
 use crate::evaluation::Outcome;
-use crate::listing::{asked, deck_words, listing, words, ANSWERS, SCRATCH, STORE};
+use crate::listing::{asked, bar_words, deck_words, listing, words, ANSWERS, SCRATCH, STORE};
 
 /// Three counts of 64 bits.
 const HEADER_BYTES: usize = 24;
@@ -10,9 +10,14 @@ const HEADER_BYTES: usize = 24;
 /// A listing or a refusal's line, and the bytes of the goals left; none after a refusal.
 pub type Printed = (Vec<u8>, Option<Vec<u8>>);
 
-/// As the program, with a budget, and with the goals left.
-pub fn open_program(deck: Option<&[u8]>, query: &[u8], budget: u32) -> Printed {
-    match asked(deck, query, budget) {
+/// As the program, with a member's list and a budget, and with the goals left.
+pub fn open_program(
+    deck: Option<&[u8]>,
+    query: &[u8],
+    bars: Option<&[u8]>,
+    budget: u32,
+) -> Printed {
+    match asked(deck, query, bars, budget) {
         Err(number) => refusal(number),
         Ok(asked) => {
             let text = listing(&asked.symbols, &asked.outcome);
@@ -23,14 +28,24 @@ pub fn open_program(deck: Option<&[u8]>, query: &[u8], budget: u32) -> Printed {
 }
 
 /// A missing file, an odd number of bytes, no counts or more words than the store has: 12.
-pub fn carry_program(deck: Option<&[u8]>, goals_file: Option<&[u8]>, budget: u32) -> Printed {
-    match carried(deck, goals_file, budget) {
+pub fn carry_program(
+    deck: Option<&[u8]>,
+    goals_file: Option<&[u8]>,
+    bars: Option<&[u8]>,
+    budget: u32,
+) -> Printed {
+    match carried(deck, goals_file, bars, budget) {
         Err(number) => refusal(number),
         Ok(printed) => printed,
     }
 }
 
-fn carried(deck: Option<&[u8]>, file: Option<&[u8]>, budget: u32) -> Result<Printed, u32> {
+fn carried(
+    deck: Option<&[u8]>,
+    file: Option<&[u8]>,
+    bars: Option<&[u8]>,
+    budget: u32,
+) -> Result<Printed, u32> {
     let deck = deck_words(deck)?;
     let symbols = crate::deck::open(&deck)?.symbols;
     let whole = file.filter(|file| file.len() % 2 == 0);
@@ -46,8 +61,9 @@ fn carried(deck: Option<&[u8]>, file: Option<&[u8]>, budget: u32) -> Result<Prin
     };
     let mut store = words(cells);
     store.resize(STORE, 0);
+    let bars = bar_words(&deck, bars);
     let outcome =
-        carry_on(&deck, &store, given, budget, ANSWERS, SCRATCH).map_err(Refused::number)?;
+        carry_on(&deck, &store, given, &bars, budget, ANSWERS, SCRATCH).map_err(Refused::number)?;
     let left = goals(&outcome, given.terms);
     Ok((listing(&symbols, &outcome).into_bytes(), Some(left)))
 }

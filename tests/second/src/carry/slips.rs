@@ -9,6 +9,7 @@ use crate::world::renumber;
 struct Call<'a> {
     deck: &'a [u16],
     given: Given,
+    bars: &'a [u16],
     budget: u32,
     lent: Lent<'a>,
     report: &'a mut Report,
@@ -32,11 +33,12 @@ impl crate::judge::Engine for Slip {
         &self,
         deck: &[u16],
         query: &[u16],
+        bars: &[u16],
         budget: u32,
         lent: Lent<'_>,
         report: &mut Report,
     ) -> u32 {
-        crate::judge::Engine::run(&Second, deck, query, budget, lent, report)
+        crate::judge::Engine::run(&Second, deck, query, bars, budget, lent, report)
     }
 }
 
@@ -45,6 +47,7 @@ impl Engine for Slip {
         &self,
         deck: &[u16],
         given: Given,
+        bars: &[u16],
         budget: u32,
         lent: Lent<'_>,
         report: &mut Report,
@@ -52,6 +55,7 @@ impl Engine for Slip {
         (self.carry_on)(Call {
             deck,
             given,
+            bars,
             budget,
             lent,
             report,
@@ -67,7 +71,14 @@ impl Call<'_> {
             store: &mut *self.lent.store,
             scratch: &mut *self.lent.scratch,
         };
-        Second.carry_on(self.deck, self.given, self.budget, lent, self.report)
+        Second.carry_on(
+            self.deck,
+            self.given,
+            self.bars,
+            self.budget,
+            lent,
+            self.report,
+        )
     }
 
     fn case(&self) -> CarryCase {
@@ -76,6 +87,7 @@ impl Call<'_> {
             deck: self.deck.to_vec(),
             store: self.lent.store.to_vec(),
             given: self.given,
+            bars: self.bars.to_vec(),
             budget: self.budget,
             answer_words: self.lent.answers.len(),
             scratch_words: self.lent.scratch.len(),

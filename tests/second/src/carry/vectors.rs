@@ -38,6 +38,7 @@ fn parse_case<'a>(
     else {
         return Err(format!("{name}: three sizes expected"));
     };
+    let bars = numbers(field(lines.next(), "bars")?)?;
     let case = CarryCase {
         deck,
         store,
@@ -46,6 +47,7 @@ fn parse_case<'a>(
             parked,
             terms,
         },
+        bars,
         budget: u32::try_from(budget).map_err(|_| format!("{name}: budget"))?,
         answer_words,
         scratch_words,
@@ -69,5 +71,6 @@ pub fn print(case: &CarryCase, expected: &Expected) -> String {
             "sizes {} {} {}\n",
             case.budget, case.answer_words, case.scratch_words
         )
+        + &line("bars", &case.bars)
         + &print_expected(expected)
 }

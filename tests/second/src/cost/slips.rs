@@ -4,7 +4,7 @@ use super::Slip;
 use crate::carry::{self, Given};
 use crate::evaluation::{Limits, Outcome};
 use crate::judge::{put, report_of, Engine, Lent, Report, Second};
-use crate::loose;
+use crate::rights::Rules;
 
 pub struct Slipping {
     pub name: &'static str,
@@ -12,6 +12,13 @@ pub struct Slipping {
 }
 
 impl Slipping {
+    fn rules(&self) -> Rules {
+        Rules {
+            slip: self.slip,
+            ..Rules::RIGHT
+        }
+    }
+
     /// The result as it is told.
     fn tell(&self, outcome: &Outcome, lent: Lent<'_>, report: &mut Report) -> u32 {
         *report = report_of(outcome);
@@ -39,6 +46,7 @@ impl Engine for Slipping {
         &self,
         deck: &[u16],
         query: &[u16],
+        bars: &[u16],
         budget: u32,
         lent: Lent<'_>,
         report: &mut Report,
@@ -49,7 +57,7 @@ impl Engine for Slipping {
             store_words: lent.store.len(),
         };
         let scratch_words = lent.scratch.len();
-        match crate::run_with(deck, query, limits, scratch_words, loose::both, self.slip) {
+        match crate::run_with(deck, query, bars, limits, scratch_words, self.rules()) {
             Ok(outcome) => self.tell(&outcome, lent, report),
             Err(number) => number,
         }
@@ -61,12 +69,13 @@ impl carry::judge::Engine for Slipping {
         &self,
         deck: &[u16],
         given: Given,
+        bars: &[u16],
         budget: u32,
         lent: Lent<'_>,
         report: &mut Report,
     ) -> u32 {
         let sizes = (lent.answers.len(), lent.scratch.len());
-        match carry::carry_with(deck, lent.store, given, budget, sizes, self.slip) {
+        match carry::carry_with(deck, lent.store, given, bars, budget, sizes, self.rules()) {
             Ok(outcome) => self.tell(&outcome, lent, report),
             Err(refused) => refused.number(),
         }
@@ -89,11 +98,12 @@ impl Engine for Continued<'_> {
         &self,
         deck: &[u16],
         query: &[u16],
+        bars: &[u16],
         budget: u32,
         lent: Lent<'_>,
         report: &mut Report,
     ) -> u32 {
-        Second.run(deck, query, budget, lent, report)
+        Second.run(deck, query, bars, budget, lent, report)
     }
 }
 
@@ -102,11 +112,12 @@ impl carry::judge::Engine for Continued<'_> {
         &self,
         deck: &[u16],
         given: Given,
+        bars: &[u16],
         budget: u32,
         lent: Lent<'_>,
         report: &mut Report,
     ) -> u32 {
-        self.0.carry_on(deck, given, budget, lent, report)
+        self.0.carry_on(deck, given, bars, budget, lent, report)
     }
 }
 

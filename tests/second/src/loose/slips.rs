@@ -1,11 +1,11 @@
 //! This evaluator with a slip put into its checks of loose variables, to see that the comparison finds it.
 
 use super::{both, deck as deck_check, loose, query as query_check, refused_unless, Checks};
-use crate::cost;
 use crate::deck::{Clause, Deck};
 use crate::evaluation::Limits;
 use crate::judge::{put, report_of, Engine, Lent, Report};
 use crate::query::Query;
+use crate::rights::Rules;
 use crate::terms::{Applied, Literal, Term};
 
 pub struct Slip {
@@ -48,6 +48,7 @@ impl Engine for Slip {
         &self,
         deck: &[u16],
         query: &[u16],
+        bars: &[u16],
         budget: u32,
         lent: Lent<'_>,
         report: &mut Report,
@@ -66,8 +67,12 @@ impl Engine for Slip {
             answer_words: lent.answers.len(),
             store_words: lent.store.len(),
         };
+        let rules = Rules {
+            loose: checks,
+            ..Rules::RIGHT
+        };
         let scratch_words = lent.scratch.len();
-        let ran = crate::run_with(deck, query, limits, scratch_words, checks, cost::Slip::None);
+        let ran = crate::run_with(deck, query, bars, limits, scratch_words, rules);
         match ran {
             Ok(outcome) => {
                 *report = report_of(&outcome);

@@ -5,14 +5,16 @@ mod limits;
 mod shapes;
 
 use super::dice::Dice;
+use super::members;
 use super::rows::rows;
 use super::sizes::near_a_step;
 use super::texts::small_world;
 use super::tight::{self, Ways};
 use crate::carry::{CarryCase, Given};
+use crate::rights::no_bars;
 use crate::terms::VARIABLE;
 use crate::world::{renumber, World};
-pub use damage::{everywhere, numbers};
+pub use damage::{everywhere, lists, numbers};
 pub use limits::limits;
 pub use shapes::{shapes, Shape};
 
@@ -42,6 +44,7 @@ pub fn carry_case(seed: u64) -> CarryCase {
         }
         case.name.push_str("-damaged");
     }
+    case.bars = members::for_goals(&mut Dice::new(seed ^ 0xba55), &case);
     case
 }
 
@@ -74,6 +77,7 @@ fn filled(dice: &mut Dice, world: &World) -> CarryCase {
             parked: parked as u64,
             terms: terms as u64,
         },
+        bars: no_bars(&world.deck()),
         budget: budget(dice),
         answer_words: answer_words(dice),
         scratch_words: *dice.pick(&[8_192, 8_192, 8_192, 8_193, 9_000]),

@@ -3,6 +3,7 @@
 use super::dice::Dice;
 use crate::case::Case;
 use crate::evaluation::{Outcome, Stop};
+use crate::rights::no_bars;
 use crate::world::World;
 
 pub fn sized(dice: &mut Dice, world: &World, most_cost: u32) -> Case {
@@ -10,6 +11,7 @@ pub fn sized(dice: &mut Dice, world: &World, most_cost: u32) -> Case {
         name: String::new(),
         deck: world.deck(),
         query: world.query.clone(),
+        bars: no_bars(&world.deck()),
         budget: budget(dice).min(most_cost),
         answer_words: answer_words(dice),
         store_words: store_words(dice),

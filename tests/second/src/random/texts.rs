@@ -101,6 +101,7 @@ pub(super) fn damaged(dice: &mut Dice, world: World) -> Vec<u16> {
         name: String::new(),
         deck: world.deck(),
         query: Vec::new(),
+        bars: Vec::new(),
         budget: 0,
         answer_words: 0,
         store_words: 0,

@@ -1,7 +1,8 @@
 -- `carry_on`: the refusal of the checks, or the run from the goals.
-use mathlib.Core.Path.{◌≡◌, sym, ◌∙◌, ap}
+use mathlib.Core.Path.{◌≡◌, sym, ◌∙◌, ap, subst}
+use mathlib.Core.List.{◌++◌}
 use native.Mathlib.Omega.{arith}
-use lib.ListN.{length}
+use lib.ListN.{length, take}
 use Rattle.std.specs.Prelude.{Ok, Err}
 use Rattle.std.proofs.lemmas.Result.{err_from_is_err_and}
 use Rattle.rules.specs.Syntax.{Deck}
@@ -11,16 +12,18 @@ use Rattle.rules.specs.Run.{carry}
 use Rattle.deck.proofs.OpenLaws.{accepted-deck}
 use Rattle.evaluation.specs.Results.{CarriedAs}
 use Rattle.evaluation.proofs.RunLaws.{topped-as}
-use Rattle.evaluation.proofs.CarryLaws.{deck-refused, sizes-refused, carried-as, ran-on-refused, carried-sizes, carried-opens, ran-on-accepted}
+use Rattle.rules.specs.Goals.{unmarked}
+use Rattle.rights.specs.Reached.{AreGoals}
+use Rattle.evaluation.proofs.CarryLaws.{one-deck, deck-refused, sizes-refused, carried-as, ran-on-refused, ran-on-barred, carried-sizes, carried-opens, carried-goals, ran-on-accepted}
 use Rattle.evaluation.proofs.carry.carry_on.Goals as goal
-use Rattle.evaluation.proofs.carry.carry_on.Goals.{In_ok-opened, In_ok-held}
+use Rattle.evaluation.proofs.carry.carry_on.Goals.{In_ok-opened, In_ok-held, After-new-clauses}
 
 pub returns-in_err-opened : goal.returns-in_err-opened
 returns-in_err-opened c =
     let a = c.args in
     let p = err_from_is_err_and c.from_residual.result c.from_residual.ensures.1 in
     rw (p.1, p.2)
-    (ran-on-refused a.deck.now a.pending a.parked a.terms a.store.now a.scratch.now a.budget a.answers.now _
+    (ran-on-refused a.deck.now a.pending a.parked a.terms a.store.now a.scratch.now a.bars.now a.budget a.answers.now _
     (deck-refused a.deck.now a.pending a.parked a.terms a.store.now (length a.scratch.now) _ c.in_err-opened.ensures.number))
 
 -- The deck that opened.
@@ -33,7 +36,7 @@ returns-in_err-sizes c =
     let d = deck (goal.at.returns-in_err-sizes c).In_ok-opened in
     let p = err_from_is_err_and c.from_residual-in_err-sizes.result c.from_residual-in_err-sizes.ensures.1 in
     rw (p.1, p.2)
-    (ran-on-refused a.deck.now a.pending a.parked a.terms a.store.now a.scratch.now a.budget a.answers.now _
+    (ran-on-refused a.deck.now a.pending a.parked a.terms a.store.now a.scratch.now a.bars.now a.budget a.answers.now _
     (sizes-refused a.deck.now a.pending a.parked a.terms a.store.now (length a.scratch.now) d.0 d.1 _ c.in_err-sizes.ensures))
 
 pub returns-in_err-held : goal.returns-in_err-held
@@ -42,7 +45,7 @@ returns-in_err-held c =
     let d = deck (goal.at.returns-in_err-held c).In_ok-opened in
     let p = err_from_is_err_and c.from_residual-in_err-held.result c.from_residual-in_err-held.ensures.1 in
     rw (p.1, p.2)
-    (ran-on-refused a.deck.now a.pending a.parked a.terms a.store.now a.scratch.now a.budget a.answers.now _
+    (ran-on-refused a.deck.now a.pending a.parked a.terms a.store.now a.scratch.now a.bars.now a.budget a.answers.now _
     (carried-as a.deck.now a.pending a.parked a.terms a.store.now (length a.scratch.now) d.0 d.1 c.in_ok-sizes.ensures (Err c.in_err-held.field-0.0)
     (c.in_err-held.ensures d.0 (ap open_deck c.in_ok-opened.ensures.words ∙ d.1))))
 
@@ -53,6 +56,32 @@ let-through c d o =
     let a = c.args in
     carried-as a.deck.now a.pending a.parked a.terms a.store.now (length a.scratch.now) d o c.in_ok-sizes.ensures (Ok ((c.in_ok-held.held, c.in_ok-held.end)))
     (c.in_ok-held.ensures d (ap open_deck c.in_ok-opened.ensures.words ∙ o))
+
+-- The clauses are the deck's.
+words : (c : goal.After-new-clauses) → c.new-clauses.result.deck.words.now ≡ c.args.deck.now
+words c = c.new-clauses.ensures ∙ c.in_ok-opened.ensures.words
+
+pub check_goals-requires : goal.check_goals-requires
+check_goals-requires c = λ d e.
+    let k = goal.at.check_goals-requires c in
+    let a = c.args in
+    let o = sym (ap open_deck (words k.After-new-clauses)) ∙ e in
+    let h = let-through k.In_ok-held d o in
+    let g = carried-goals a.deck.now a.pending a.parked a.terms a.store.now a.scratch.now _ h in
+    let same : h.0.deck ≡ d = one-deck a.deck.now h.0.deck d (carried-opens a.deck.now a.pending a.parked a.terms a.store.now a.scratch.now _ h) o in
+    record { goals = unmarked h.0.goals.pending ++ h.0.goals.parked; are = subst (λ (x : Deck). AreGoals x.symbols (take c.in_ok-held.end a.store.now) (unmarked h.0.goals.pending ++ h.0.goals.parked)) same g }
+
+pub returns-in_err-check_goals : goal.returns-in_err-check_goals
+returns-in_err-check_goals c =
+    let k = goal.at.returns-in_err-check_goals c in
+    let a = c.args in
+    let d = deck k.In_ok-opened in
+    let h = let-through k.In_ok-held d.0 d.1 in
+    let p = err_from_is_err_and c.from_residual-in_err-check_goals.result c.from_residual-in_err-check_goals.ensures.1 in
+    rw (p.1, p.2)
+    (ran-on-barred a.deck.now a.pending a.parked a.terms a.store.now a.scratch.now _ h a.bars.now a.budget a.answers.now _
+    (c.in_err-check_goals.ensures h.0.deck _ (ap open_deck (words k.After-new-clauses) ∙ carried-opens a.deck.now a.pending a.parked a.terms a.store.now a.scratch.now _ h)
+    (carried-goals a.deck.now a.pending a.parked a.terms a.store.now a.scratch.now _ h)))
 
 pub from_goals-requires-clause-opening : goal.from_goals-requires-clause-opening
 from_goals-requires-clause-opening c =
@@ -65,7 +94,7 @@ from_goals-requires-clause-opening c =
       deck = h.0.deck;
       goals = h.0.goals.pending;
       parked_goals = h.0.goals.parked;
-      opens = ap open_deck c.in_ok-opened.ensures.words ∙ o;
+      opens = ap open_deck (words k.After-new-clauses) ∙ o;
       stored = c.resume.ensures h.0.deck.symbols h.0.goals.pending h.0.goals.parked h.2;
     }
 
@@ -88,8 +117,11 @@ returns c =
     let k = goal.at.returns c in
     let a = c.args in
     let d = deck k.In_ok-opened in
+    let h = let-through k.In_ok-held d.0 d.1 in
     let z = c.from_goals in
     let r = c.resume in
-    ran-on-accepted a.deck.now a.pending a.parked a.terms a.store.now a.scratch.now _ (let-through k.In_ok-held d.0 d.1)
-    a.budget a.answers.now z.new.answers z.new.store z.new.scratch z.result (z.auto.store ∙ r.auto.store) z.auto.scratch
-    (λ d gs ms o h. topped-as r.auto.store (z.ensures d gs ms (ap open_deck c.in_ok-opened.ensures.words ∙ o) (r.ensures d.symbols gs ms h)))
+    ran-on-accepted a.deck.now a.pending a.parked a.terms a.store.now a.scratch.now _ h a.bars.now a.budget a.answers.now
+    (c.in_ok-check_goals.ensures h.0.deck _ (ap open_deck (words k.After-new-clauses) ∙ carried-opens a.deck.now a.pending a.parked a.terms a.store.now a.scratch.now _ h)
+    (carried-goals a.deck.now a.pending a.parked a.terms a.store.now a.scratch.now _ h))
+    z.new.answers z.new.store z.new.scratch z.result (z.auto.store ∙ r.auto.store) z.auto.scratch
+    (λ d gs ms o h. topped-as r.auto.store (z.ensures d gs ms (ap open_deck (words k.After-new-clauses) ∙ o) (r.ensures d.symbols gs ms h)))

@@ -27,6 +27,33 @@ fn counts(count: u64) -> Vec<u64> {
     list
 }
 
+/// Each word of the member's list otherwise, alone and beside another; and lists of other lengths.
+pub fn lists(case: &CarryCase) -> Vec<CarryCase> {
+    let with = |bars: Vec<u16>| CarryCase {
+        name: format!("{}, a list {bars:?}", case.name),
+        bars,
+        ..case.clone()
+    };
+    let all = case.bars.len();
+    let mut cases = Vec::new();
+    for at in 0..all {
+        for word in [1, 2, 256, 257, 65_535] {
+            let mut bars = case.bars.clone();
+            bars[at] = word;
+            cases.push(with(bars));
+        }
+        for other in 0..all {
+            let mut bars = case.bars.clone();
+            (bars[at], bars[other]) = (1, 1);
+            cases.push(with(bars));
+        }
+    }
+    let lengths = [0, 1, all - 1, all + 1, 2 * all];
+    cases.extend(lengths.map(|length| with(vec![0; length])));
+    cases.extend(lengths.map(|length| with(vec![1; length])));
+    cases
+}
+
 /// Each of the three numbers otherwise, and both counts together.
 pub fn numbers(case: &CarryCase) -> Vec<CarryCase> {
     let given = case.given;
@@ -163,6 +190,7 @@ fn damage_deck(dice: &mut Dice, world: &World, case: &mut CarryCase) {
         name: String::new(),
         deck: case.deck.clone(),
         query: Vec::new(),
+        bars: Vec::new(),
         budget: 0,
         answer_words: 0,
         store_words: 0,

@@ -28,6 +28,7 @@ impl Shape {
                 parked: self.parked.len() as u64,
                 terms: self.terms,
             },
+            bars: vec![0; self.world.symbols.len()],
             budget,
             answer_words: 8_192,
             scratch_words: 8_192,

@@ -1,0 +1,3 @@
+-- What the code has reached.
+pub mod Named
+pub mod Reached
