@@ -2,7 +2,7 @@
  *
  * Each call returns 0, or the number of a refusal, with nothing touched (leads_read_text has two exceptions):
  *   1  the deck's header or length      6  the query has over 500 cells
- *   2  a symbol word                    7  the query is not literals, or misnumbered
+ *   2  a symbol word, or two equal numbers   7  the query is not literals, or misnumbered
  *   3  the clause starts                8  the store has under 1,024 or over 65,535 words
  *   4  a clause over 256 cells          9  the scratch has under 8,192 words
  *   5  a clause that is not a head and literals, or whose variables are misnumbered
@@ -12,6 +12,8 @@
  *  14  a variable of the query is in none of its positive literals
  *  15  a member's list that has not one word a symbol, or another word than 0, or 1 for a predicate
  *  16  a barred predicate is among the query's literals, or those of the open goals, or is reached from them
+ *  17  the list does not begin with that many answers of that many terms, the count is 0 or over 65,535, or there is no such column
+ *  18  an entry of the column is not a number
  *  19  drill terms of over 8 cells, or after a term that is not of their list
  * Checks go in number order, each over everything before the next. A call makes those that are about what it is given:
  *   leads_open        1 to 5
@@ -22,7 +24,27 @@
  *   leads_continue    1 to 5, 8, 9, 12, 13, 15, 16
  *   leads_drill       1 to 5, 19
  *   leads_levels      1 to 5
+ *   leads_mean        1 to 5, 17, 18
  * So a deck with a loose variable (13) can be opened, read and written as text, and mended, and its drill terms are listed and its levels told, but it takes no query and no open goals.
+ *
+ * A deck is its words, at most 16,384, of format 1 or 2. Format 2 has numbers too, as lengths of shots:
+ *   header   8 words: the format, 1 or 2; the number of symbols S, 1 to 4,096; 8; the number of clauses C; 8 + R, where the clause words
+ *            begin; the number of cells T; 8 + R + C, where the cells begin; 8 + R + C + T, the number of all words. R is the number of words
+ *            that the symbols take: S in format 1, 2S in format 2
+ *   symbols  numbered from 0. In format 1 each has one word: the number of its arguments, 0 to 15, for a functor (a station is a functor
+ *            without arguments), and 256 more for a predicate. In format 2 each has two words, side by side, those of symbol i from word
+ *            8 + 2i on. Of a functor or a predicate the first is as in format 1, and the second is 0. Of a number the first is 512, and
+ *            the second its value, -32,768 to 32,767, in two's complement: 35 is 35, -35 is 65,501. No two numbers have the same value, so
+ *            equal lengths are one symbol
+ *   clauses  one word each: where the clause begins, counted from the first cell. The first is 0, each is greater than the one before, and
+ *            a clause ends where the next one begins, or with the cells. Each has at least one cell, at most 256
+ *   cells    a symbol's number; a predicate's number and 16,384 more, which is that predicate negated; or 32,768 and a variable's number, 0 to
+ *            1,023. A symbol is followed by as many terms as it has arguments. A clause is its head and the literals of its body, a query is
+ *            literals alone. Variables are numbered from 0 in each, in order of first appearance
+ * In cells a number stands by its symbol's number, like any functor without arguments: clauses, queries, answers, drill terms and members' lists
+ * (one word a symbol, not two) are the same in both formats, and a run does not look at values. So
+ *   2 5 8 2 18 6 20 26   0 0  0 0  512 65501  512 28  258 0   0 3   4 0 2  4 1 3
+ * has the symbols 0 and 1 (stations), 2 and 3 (the numbers -35 and 28) and 4 (a predicate of two arguments), and says 4(0, 2) and 4(1, 3).
  *
  * A length is a number of words, or of bytes for text. A pointer may be anything where its length is 0, but not null; nor may a pointer to
  * a result be null. The slices must not overlap.
@@ -43,8 +65,8 @@ uint32_t leads_open(const uint16_t *deck, size_t deck_words);
 /* Checks a query against a deck: refusals 1 to 7, 13 and 14. */
 uint32_t leads_check(const uint16_t *deck, size_t deck_words, const uint16_t *query, size_t query_words);
 
-/* Runs a query for a member: refusals 1 to 9 and 13 to 16. bars is the member's list, one word a symbol: 1 bars a predicate, 0 doesn't, and functors have
- * 0; a list of zeros bars nothing. A query is refused with 16 if a barred predicate is among its literals or can be reached from them through
+/* Runs a query for a member: refusals 1 to 9 and 13 to 16. bars is the member's list, one word a symbol: 1 bars a predicate, 0 doesn't, and functors and
+ * numbers have 0; a list of zeros bars nothing. A query is refused with 16 if a barred predicate is among its literals or can be reached from them through
  * clause bodies, negated or not, whether or not anything matches there. So over two decks that pass 1 to 5 and 13, with the same symbols, and the same
  * clauses in the same order about every predicate that is not barred and that the query names or reaches, the same query, list, budget and
  * lengths give the same: the same refusal, or the same stop, steps, cost and counts, the same answers and the same open goals. Nothing is promised
@@ -81,7 +103,8 @@ uint32_t leads_read_text(const uint8_t *text, size_t text_bytes, uint16_t *deck,
 
 /* Writes a deck as text: refusals 1 to 5, then 11 where the text is longer than the list. Where it returns 0, the list begins with the
  * text, of text_bytes bytes; the bytes after it are untouched. A line for each symbol, `fn s0/0.` or `pr s4/1.`, then one for each clause,
- * as `s4(_0) :- s2(_0), ~s3(_0).`; each ends in byte 10. */
+ * as `s4(_0) :- s2(_0), ~s3(_0).`; each ends in byte 10. That of a deck of format 2 begins with the line `v2.`, and a number is declared as
+ * `nu s2 -35.`. */
 uint32_t leads_write_text(const uint16_t *deck, size_t deck_words, uint8_t *text, size_t text_room, size_t *text_bytes);
 
 /* Carries on from the goals at the start of the store: refusals 1 to 5, 8, 9, 12, 13, 15 and 16. pending and parked are their numbers, as the run before
@@ -121,6 +144,18 @@ uint32_t leads_drill(const uint16_t *deck, size_t deck_words, uint32_t n, const 
  *                      back to itself, and none with a lower number is
  * There are 4,096 numbers. Of them as many are written as the list has words, from its start on; words behind them are untouched. */
 uint32_t leads_levels(const uint16_t *deck, size_t deck_words, uint16_t *levels, size_t level_words, uint32_t *circular);
+
+/* The sum of a column of answers and its mean: refusals 1 to 5, then 17 of the list, the count and the column, over all answers, then 18 of the
+ * column's entries. The list is an answer list that a run has left, or one filled by hand: it begins with count answers, 1 to 65,535, of terms
+ * terms each, goals as leads_continue takes pending ones, but without literals; the words after them are not looked at. column is the place of one
+ * of the terms, counted from 0. Of a run, count is its answer_count and terms the number of the query's variables, so that each variable's
+ * number is its column; then only count 0 or a column past the terms is 17. Where it returns 0:
+ *   sum        the sum of the values, -2,147,450,880 to 2,147,385,345
+ *   whole      the mean's whole part, rounded down: the sum -7 of 2 answers gives -4 and 1
+ *   remainder  what is left, 0 up to the count less one: the sum is whole times count, and remainder
+ * A run that has goals left open (its stop is not 0, or goals are pending or parked) may have listed only some answers; the mean is of those. */
+uint32_t leads_mean(const uint16_t *deck, size_t deck_words, const uint16_t *list, size_t list_words, uint64_t count, uint64_t terms,
+                    uint64_t column, int64_t *sum, int64_t *whole, uint64_t *remainder);
 
 #ifdef __cplusplus
 }

@@ -70,7 +70,8 @@ fn open_run(
 ) -> Result<Outputs, Refusal>
     ensures { Leaves (open_words deck.now query.now (file_of bars.entry) budget) out.old left.old result out.new left.new }
 {
-    let opened = Opened::new(deck)?;
+    let mut table = [0; 4096];
+    let opened = Opened::new(deck, &mut table)?;
     let mut room = [0; 4096];
     let bars = bars_of(&opened, bars, &mut room);
     let mut lists = Lists::new();
@@ -87,7 +88,7 @@ fn open_run(
     )?;
     let ending = Ending {
         report,
-        deck,
+        deck: opened,
         terms,
         lists: &lists,
     };
@@ -140,7 +141,8 @@ fn carry_run(
     requires { (24 ≤ length goals.now) × (length goals.now ≤ 32792) }
     ensures { Leaves (carry_bytes deck.now goals.now (file_of bars.entry) budget) out.old left.old result out.new left.new }
 {
-    let opened = Opened::new(deck)?;
+    let mut table = [0; 4096];
+    let opened = Opened::new(deck, &mut table)?;
     let mut room = [0; 4096];
     let bars = bars_of(&opened, bars, &mut room);
     let mut lists = Lists::new();
@@ -162,7 +164,7 @@ fn carry_run(
     )?;
     let ending = Ending {
         report,
-        deck,
+        deck: opened,
         terms,
         lists: &lists,
     };

@@ -5,7 +5,7 @@ use mathlib.Core.Bool.{Bool, true, false, true≢false}
 use mathlib.Core.Option.{none, some}
 use mathlib.Core.List.{List, [], ◌∷◌, ◌++◌}
 use native.Mathlib.Omega.{arith}
-use native.Mathlib.Nat.{div-add-mod', max-zero}
+use native.Mathlib.Nat.{div-add-mod'}
 use native.Mathlib.Decide.{ℕ_discrete}
 use lib.Dec.{ltb}
 use lib.ListN.{length, get_or, set, take, drop, drop_of_length-le, length-append, length-drop}
@@ -16,8 +16,8 @@ use Rattle.std.specs.Int.{bit_at, trailing_zeros, w64}
 use Rattle.std.specs.Int.Bits.{bit_or}
 use Rattle.std.proofs.lemmas.List.{get_or-drop, length-take}
 use Rattle.std.proofs.lemmas.List.Edits.{get_or-between}
-use Rattle.std.proofs.lemmas.Nat.{shr-shr, shr_le, pow_below}
-use Rattle.std.proofs.lemmas.Nat.Bits.{bit_at-zero, bit_at_or, bit_at-pow_same, bit_at-pow_other, bit_at-trailing_zeros, bit_at_above}
+use Rattle.std.proofs.lemmas.Nat.{shr-shr, shr_le}
+use Rattle.std.proofs.lemmas.Nat.Bits.{bit_at-zero, bit_at-trailing_zeros, bit_at_above}
 use Rattle.std.proofs.lemmas.Slice.{take-put_mid_below, drop-put_mid, between-put_mid}
 use Rattle.rules.specs.Terms.{Terms, var, app, nil, cons, count}
 use Rattle.rules.specs.Syntax.{Symbol, Clause}
@@ -26,6 +26,7 @@ use Rattle.rules.specs.Decks.{write_clause}
 use Rattle.rules.specs.Resolution.{row_of, in_row}
 use Rattle.rules.specs.WellFormed.{WfTerms, WfClause}
 use Rattle.rules.proofs.CellLaws.{written_as}
+use Rattle.deck.proofs.BitLaws.{set-here, set-other}
 use Rattle.clauses.specs.Clauses.{ClauseAt}
 use Rattle.clauses.specs.Rows.{row_words, row_bit, member_bit, RowsOf, Unset, row_of_cell, Marked}
 
@@ -138,12 +139,6 @@ pub member_none : (r : ℕ) → member_bit r [] ≡ 0
 unfolding member_bit
 member_none r = refl
 
-set-here : (n j : ℕ) → bit_at n j ≡ 0 → bit_at (bit_or n (2 ^ j)) j ≡ 1
-set-here n j z = bit_at_or n (2 ^ j) j ∙ rw (z, bit_at-pow_same j) refl
-
-set-other : (n j i : ℕ) → (i ≡ j → ⊥) → bit_at (bit_or n (2 ^ j)) i ≡ bit_at n i
-set-other n j i d = bit_at_or n (2 ^ j) i ∙ rw (bit_at-pow_other j i d) (max-zero (bit_at n i))
-
 -- The bit is set in one word of a block, or in each.
 pub marked-one : (block : List ℕ) (j cell w b : ℕ) → length block ≡ 16 → cell < 32768 → w ≡ cell % 16 → b ≡ 2 ^ j
     → Marked block j cell (set block w (bit_or (get_or block w 0) b))
@@ -168,9 +163,6 @@ marked-each block j cell b block' h q all =
       set = λ r l t. all r l ∙ rw q refl;
       kept = λ r l t. absurd (true≢false (ap (in_row r) (sym o) ∙ t));
     }
-
-pub shifted-one : (j : ℕ) → j < 64 → 1 * 2 ^ j % 18446744073709551616 ≡ 2 ^ j
-shifted-one j h = omega (arith, pow_below j 64 h)
 
 -- The rows of some clauses, filled for the first k of them.
 pub record Rowing (cs : List Clause) (k : ℕ) (words : List ℕ) : Type 0 where

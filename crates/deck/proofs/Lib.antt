@@ -7,4 +7,7 @@ pub mod RefusalLaws
 pub mod OpenLaws
 pub mod CellsLaws
 pub mod PartLaws
+pub mod BitLaws
+pub mod PairLaws
+pub mod ValueLaws
 pub mod HeaderLaws

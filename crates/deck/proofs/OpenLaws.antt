@@ -10,7 +10,7 @@ use lib.Dec.{leb}
 use Rattle.rules.specs.Syntax.{Symbol, Deck}
 use Rattle.rules.specs.Cells.{read_literals}
 use Rattle.rules.specs.Refusals.{Refusal, bad_header, bad_symbol, bad_starts, long_clause, bad_clause, long_query, bad_query, refusal_number, Checked, refused, accepted, and_then, require, obtain, checked_number}
-use Rattle.rules.specs.Decks.{header_fits, symbol_words, clause_words, term_cells, read_symbol, read_clause, read_all, starts_fit, clause_rows, rows_short, open_deck, read_query}
+use Rattle.rules.specs.Decks.{header_fits, symbol_words, clause_words, term_cells, read_symbol, read_clause, read_all, read_format, starts_fit, clause_rows, rows_short, open_deck, read_query}
 use Rattle.rules.proofs.DeckLaws.{steps-open}
 use Rattle.deck.specs.Answers.{found, check_words}
 use Rattle.deck.specs.Kinds.{symbols_of}
@@ -38,8 +38,11 @@ short_number ws = unless (rows_short (clause_rows (term_cells ws) (clause_words 
 abbrev pub starts_number : List ℕ → ℕ
 starts_number ws = unless (starts_fit (length (term_cells ws)) (clause_words ws)) 3 (short_number ws)
 
+abbrev pub values_number : List ℕ → ℕ
+values_number ws = unless (found (read_format ws)) 2 (starts_number ws)
+
 abbrev pub symbols_number : List ℕ → ℕ
-symbols_number ws = unless (found (read_all read_symbol (symbol_words ws))) 2 (starts_number ws)
+symbols_number ws = unless (found (read_all read_symbol (symbol_words ws))) 2 (values_number ws)
 
 abbrev pub open_number : List ℕ → ℕ
 open_number ws = unless (header_fits ws) 1 (symbols_number ws)
@@ -70,12 +73,13 @@ open-number ws =
     required bad_header (header_fits ws) _
     ∙ ap (unless (header_fits ws) 1)
     (obtained bad_symbol (read_all read_symbol (symbol_words ws)) _ _ λ S e.
+    obtained bad_symbol (read_format ws) _ _ λ F q.
     required bad_starts (starts_fit (length (term_cells ws)) (clause_words ws)) _
     ∙ ap (unless (starts_fit (length (term_cells ws)) (clause_words ws)) 3)
     (required long_clause (rows_short (clause_rows (term_cells ws) (clause_words ws))) _
     ∙ ap (unless (rows_short (clause_rows (term_cells ws) (clause_words ws))) 4)
     (rw (← symbols-read (symbol_words ws) S e)
-    (obtained bad_clause (read_all (read_clause S) (clause_rows (term_cells ws) (clause_words ws))) _ 0 λ cs q. refl))))
+    (obtained bad_clause (read_all (read_clause S) (clause_rows (term_cells ws) (clause_words ws))) _ 0 λ cs r. refl))))
 
 -- Checking a query.
 obtained-last : {A : Type 0} (n : Refusal) (o : Option A) → checked_number (obtain n o) ≡ unless (found o) (refusal_number n) 0

@@ -5,7 +5,7 @@ use mathlib.Core.Bool.{true, false}
 use mathlib.Core.List.{List, [], ◌∷◌}
 use native.Mathlib.Omega.{arith}
 use lib.Dec.{eqb}
-use Rattle.rules.specs.Refusals.{Refusal, bad_header, bad_symbol, bad_starts, long_clause, bad_clause, long_query, bad_query, bad_store, bad_scratch, bad_text, no_room, bad_goals, loose_clause, loose_query, bad_bars, barred_reached, bad_drill, refusal_number, Checked, refused, accepted, checked_number}
+use Rattle.rules.specs.Refusals.{Refusal, bad_header, bad_symbol, bad_starts, long_clause, bad_clause, long_query, bad_query, bad_store, bad_scratch, bad_text, no_room, bad_goals, loose_clause, loose_query, bad_bars, barred_reached, bad_answers, not_number, bad_drill, refusal_number, Checked, refused, accepted, checked_number}
 use Rattle.deck.specs.declared.Refusal.{Refusal as Why}
 use Rattle.std.specs.Prelude.{Err}
 use Rattle.deck.specs.Answers.{number_of, refusal_for}
@@ -13,7 +13,7 @@ use Rattle.deck.specs.Answers.{number_of, refusal_for}
 abbrev refusals : List Refusal
 refusals =
     bad_header ∷ bad_symbol ∷ bad_starts ∷ long_clause ∷ bad_clause ∷ long_query ∷ bad_query ∷ bad_store ∷ bad_scratch
-    ∷ bad_text ∷ no_room ∷ bad_goals ∷ loose_clause ∷ loose_query ∷ bad_bars ∷ barred_reached ∷ bad_drill ∷ []
+    ∷ bad_text ∷ no_room ∷ bad_goals ∷ loose_clause ∷ loose_query ∷ bad_bars ∷ barred_reached ∷ bad_answers ∷ not_number ∷ bad_drill ∷ []
 
 -- The one of them that has a number.
 abbrev numbered_in : ℕ → List Refusal → Refusal
@@ -40,6 +40,8 @@ listed loose_clause = (omega arith, omega arith, refl)
 listed loose_query = (omega arith, omega arith, refl)
 listed bad_bars = (omega arith, omega arith, refl)
 listed barred_reached = (omega arith, omega arith, refl)
+listed bad_answers = (omega arith, omega arith, refl)
+listed not_number = (omega arith, omega arith, refl)
 listed bad_drill = (omega arith, omega arith, refl)
 
 pub number-positive : (r : Refusal) → 1 ≤ refusal_number r

@@ -5,7 +5,7 @@ use Rattle.rules.specs.Syntax.{Literal}
 use Rattle.rules.specs.Refusals as rules
 use Rattle.rules.specs.Decks.{open_deck, read_query}
 use Rattle.deck.specs.declared.Refusal.{Refusal}
-use Rattle.deck.specs.declared.Refusal.TheVariants.{Header, Symbol, Starts, LongClause, Clause, LongQuery, Query, Store, Scratch, Text, Room, Goals, LooseClause, LooseQuery, Bars, Barred, Drill}
+use Rattle.deck.specs.declared.Refusal.TheVariants.{Header, Symbol, Starts, LongClause, Clause, LongQuery, Query, Store, Scratch, Text, Room, Goals, LooseClause, LooseQuery, Bars, Barred, Answers, NotNumber, Drill}
 
 abbrev pub refusal_for : Refusal → rules.Refusal
 refusal_for Header = rules.bad_header
@@ -24,6 +24,8 @@ refusal_for LooseClause = rules.loose_clause
 refusal_for LooseQuery = rules.loose_query
 refusal_for Bars = rules.bad_bars
 refusal_for Barred = rules.barred_reached
+refusal_for Answers = rules.bad_answers
+refusal_for NotNumber = rules.not_number
 refusal_for Drill = rules.bad_drill
 
 -- The number of an answer, whatever is handed on where nothing is refused.

@@ -3,3 +3,4 @@ pub mod Answers
 pub mod Kinds
 pub mod Scan
 pub mod Rows
+pub mod Pairs

@@ -1,16 +1,16 @@
 // Refusal 1: the eight header words and the deck's length.
-ghost use Rattle.std.specs.Prelude.{◌≡◌};
-ghost use Rattle.rules.specs.Decks.{header_fits};
+ghost use Rattle.std.specs.Prelude.{◌≡◌, ◌≤◌};
+ghost use Rattle.rules.specs.Decks.{header_fits, symbol_room};
 
 // Format, number of symbols S, symbol offset, number of clauses C, clause offset, number of term cells T, term offset, total words:
-// the offsets and the total follow from the three numbers, and the total is the length, at most 16,384.
+// the offsets and the total follow from the format, in which a symbol takes one word or two, and the three numbers; the total is the length, at most 16,384.
 // Tests one after another: as one expression with `&&` its proof is a case for each of them.
 #[tactic(auto, using(crate::proofs::HeaderLaws::header_or_not))]
 pub fn fit(deck: &[u16]) -> bool
     ensures { result ≡ header_fits deck.now }
 {
     let [
-        1,
+        format @ 1..=2,
         symbols @ 1..=4096,
         8,
         clauses,
@@ -23,7 +23,7 @@ pub fn fit(deck: &[u16]) -> bool
     else {
         return false;
     };
-    let first_start = 8 + usize::from(*symbols);
+    let first_start = 8 + room(usize::from(*format), usize::from(*symbols));
     let first_cell = first_start + usize::from(*clauses);
     let end = first_cell + usize::from(*terms);
     if usize::from(*starts) != first_start {
@@ -42,4 +42,13 @@ pub fn fit(deck: &[u16]) -> bool
         return false;
     }
     true
+}
+
+// How many words so many symbols take.
+fn room(format: usize, symbols: usize) -> usize
+    requires { symbols ≤ 4096 }
+    ensures words { result ≡ symbol_room format symbols }
+    ensures small { result ≤ 8192 }
+{
+    if format == 2 { 2 * symbols } else { symbols }
 }

@@ -13,6 +13,7 @@ mod header;
 pub mod kinds;
 mod lengths;
 pub mod opened;
+mod pairs;
 pub mod parts;
 pub mod rows;
 mod starts;
@@ -38,6 +39,8 @@ pub enum Refusal {
     LooseQuery,
     Bars,
     Barred,
+    Answers,
+    NotNumber,
     Drill,
 }
 
@@ -73,6 +76,8 @@ impl From<Refusal> for u32 {
             Refusal::LooseQuery => 14,
             Refusal::Bars => 15,
             Refusal::Barred => 16,
+            Refusal::Answers => 17,
+            Refusal::NotNumber => 18,
             Refusal::Drill => 19,
         }
     }
@@ -82,16 +87,21 @@ impl From<Refusal> for u32 {
 pub fn open(deck: &[u16]) -> Result<(), Refusal>
     ensures { number_of result ≡ checked_number (open_deck deck.now) }
 {
-    Opened::new(deck)?;
+    let mut table = [0; 4096];
+    Opened::new(deck, &mut table)?;
     Ok(())
 }
 
 // Refusals 1 to 5 of the deck, then 6 and 7 of the query; loose variables are looked at by `loose`.
-pub fn check<'a>(deck: &'a [u16], query: &[u16]) -> Result<Opened<'a>, Refusal>
+pub fn check<'a>(
+    deck: &'a [u16],
+    query: &[u16],
+    table: &'a mut [u16; 4096],
+) -> Result<Opened<'a>, Refusal>
     ensures number { answer_number result ≡ checked_number (check_words deck.now query.now) }
     ensures words { IfOk result (λ opened. opened.words.now ≡ deck.now) }
 {
-    let opened = Opened::new(deck)?;
+    let opened = Opened::new(deck, table)?;
     if 500 < query.len() {
         return Err(Refusal::LongQuery);
     }

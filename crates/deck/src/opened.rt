@@ -23,8 +23,8 @@ pub struct Opened<'a> {
 }
 
 impl<'a> Opened<'a> {
-    // Refusals 1 to 5, each over everything before the next.
-    pub fn new(words: &'a [u16]) -> Result<Opened<'a>, Refusal>
+    // Refusals 1 to 5, each over everything before the next. The table is for the symbol words of a deck of format 2.
+    pub fn new(words: &'a [u16], table: &'a mut [u16; 4096]) -> Result<Opened<'a>, Refusal>
         ensures number { answer_number result ≡ checked_number (open_deck words.now) }
         ensures words { IfOk result (λ opened. opened.words.now ≡ words.now) }
     {
@@ -32,8 +32,11 @@ impl<'a> Opened<'a> {
             return Err(Refusal::Header);
         }
         let parts = Parts { words };
-        let symbols = parts.symbols();
+        let symbols = parts.symbols(table);
         if !symbols::fit(symbols) {
+            return Err(Refusal::Symbol);
+        }
+        if !parts.values_fit() {
             return Err(Refusal::Symbol);
         }
         let starts = parts.starts();
@@ -56,7 +59,7 @@ impl<'a> Opened<'a> {
     }
 
     // The deck of words that are known to open.
-    pub fn known(words: &'a [u16]) -> Opened<'a>
+    pub fn known(words: &'a [u16], table: &'a mut [u16; 4096]) -> Opened<'a>
         requires { checked_number (open_deck words.now) ≡ 0 }
         ensures { result.words.now ≡ words.now }
     {
@@ -67,7 +70,7 @@ impl<'a> Opened<'a> {
         };
         Opened {
             words,
-            symbols: parts.symbols(),
+            symbols: parts.symbols(table),
             rows,
         }
     }

@@ -6,6 +6,7 @@ use std::io;
 mod build;
 mod damage;
 mod limits;
+mod numbers;
 mod queries;
 mod reading;
 mod show;
@@ -27,5 +28,9 @@ fn main(rt: HostRuntime) -> io::Result<()> {
     queries::loose_clauses(&rt)?;
     queries::lengths(&rt)?;
     reading::kinds(&rt)?;
-    reading::clauses(&rt, &damage::deck_l())
+    reading::clauses(&rt, &damage::deck_l())?;
+    numbers::headers(&rt)?;
+    numbers::words(&rt)?;
+    numbers::equal_values(&rt)?;
+    numbers::values(&rt)
 }

@@ -57,7 +57,8 @@ fn each_clause(rt: &impl Print, deck: &Opened) -> io::Result<()> {
 
 // What an accepted deck's clauses are, and its third symbol.
 pub fn clauses(rt: &impl Print, deck: &[u16]) -> io::Result<()> {
-    match Opened::new(deck) {
+    let mut table = [0; 4096];
+    match Opened::new(deck, &mut table) {
         Ok(opened) => {
             each_clause(rt, &opened)?;
             kind(rt, opened.symbols(), 2)

@@ -5,19 +5,19 @@ use mathlib.Core.Bool.{Bool, true, false}
 use mathlib.Core.Option.{Option}
 use mathlib.Core.List.{List}
 use native.Mathlib.Omega.{arith}
-use lib.ListN.{length, take, drop, length-take}
+use lib.ListN.{length, take, drop, length-map}
 use lib.Dec.{leb}
 use lib.Seq.{sets, sets-eq, take_at, take-length}
 use borrow.Author.Tests.{leb-true, le-leb}
 use Rattle.rules.specs.Syntax.{Symbol, Deck}
 use Rattle.rules.specs.Refusals.{bad_drill, Checked, refused, accepted, and_then, require, obtain, checked_number}
-use Rattle.rules.specs.Decks.{header_fits, symbol_words, open_deck}
+use Rattle.rules.specs.Decks.{symbol_words, open_deck}
 use Rattle.rules.specs.Drill.{drill_terms, after, fitting, drill, list_after}
-use Rattle.rules.proofs.DeckLaws.{fit-facts}
+use Rattle.rules.proofs.DeckLaws.{opened-written}
 use Rattle.deck.specs.Answers.{number_of}
 use Rattle.deck.specs.declared.Refusal.{Refusal as Why}
 use Rattle.deck.specs.declared.Refusal.TheVariants.{Drill}
-use Rattle.deck.specs.Kinds.{symbols_of}
+use Rattle.deck.specs.Kinds.{symbol_of, symbols_of}
 use Rattle.deck.proofs.OpenLaws.{accepted-deck, accepted-symbols}
 use Rattle.deck.proofs.RefusalLaws.{refused-number}
 use Rattle.std.specs.Prelude.{Result, Ok, Err}
@@ -26,9 +26,11 @@ use Rattle.drill.specs.Successors.{rest_after, Given, Accepts}
 use Rattle.drill.proofs.PastLaws.{after-given}
 
 -- An opened deck has few symbols.
-pub symbols-few : (ws : List ℕ) → header_fits ws ≡ true → length (symbol_words ws) ≤ 4096
-unfolding symbol_words
-symbols-few ws e = let h = fit-facts ws e in simp length-take (omega arith)
+pub symbols-few : (ws : List ℕ) → checked_number (open_deck ws) ≡ 0 → length (symbol_words ws) ≤ 4096
+unfolding symbols_of
+symbols-few ws e =
+    let d = accepted-deck ws e in
+    omega (arith, (opened-written ws d.0 d.1).1.few_symbols, ap length (accepted-symbols ws d.0 d.1), length-map (symbol_words ws) symbol_of)
 
 -- The given cells, copied to the start of others.
 pub copied : (to given : List ℕ) → length given ≤ length to → take (length given) (sets to 0 (take (length given) given)) ≡ given

@@ -108,7 +108,8 @@ pub fn drill(deck: &[u16], n: u32, given: &[u16], out: &mut [u16]) -> Result<usi
     ensures answers { Answers (drill deck.now n given.now (length out.old)) result }
     ensures out_after { out.new ≡ list_after (drill deck.now n given.now (length out.old)) out.old }
 {
-    let opened = Opened::new(deck)?;
+    let mut table = [0; 4096];
+    let opened = Opened::new(deck, &mut table)?;
     let symbols = opened.symbols();
     let Ok(size) = usize::try_from(n) else {
         return Err(Refusal::Drill);

@@ -55,7 +55,8 @@ fn listed(deck: &[u16], input: &[u16], bytes: &mut [u8; 32768]) -> Result<usize,
     let n = u32::from(input[0]);
     let mut list = [0u16; 4096];
     let count = drill::drill(deck, n, &input[1..], &mut list)?;
-    let symbols = deck::parts::symbols(deck);
+    let mut table = [0; 4096];
+    let symbols = deck::parts::symbols(deck, &mut table);
     let mut out = Output::new(bytes);
     lines::put_lines(&mut out, &list, count, symbols);
     Ok(out.at)

@@ -10,7 +10,8 @@ use borrow.Author.Tests.{lt-leb, le-leb}
 use mathlib.Core.Logic.{◌⊎◌, inl, inr}
 use Rattle.std.specs.Prelude.{Option, Some, None, IfSome, unwrap_or}
 use Rattle.std.proofs.Common.{Bor}
-use Rattle.text_rules.specs.TextTokens.{Kind, number, variable, kind_number, Class, no_class, space, letter, zero_digit, digit, underscore, colon, minus, mark, class_of, is_class, numeral, value, Token, end_token, at_most, number_token, variable_token, implies_token, token_from, tokens}
+use lib.Dec.{leb}
+use Rattle.text_rules.specs.TextTokens.{Kind, variable, kind_number, Class, no_class, space, letter, zero_digit, digit, underscore, colon, minus, mark, class_of, is_class, numeral, value, Token, end_token, at_most, number_token, variable_token, implies_token, token_from, tokens, amount, number_kind, negative_kind, negative_token}
 use Rattle.text_rules.specs.TextWords.{Declaration, Use, Entry, number_of, symbol_number, entry_cell}
 use Rattle.text.specs.declared.tokens.Kind.TheVariants.{Variable}
 use Rattle.text.specs.declared.tokens.Token.{Token as Scanned}
@@ -46,6 +47,23 @@ implies-first b m (c ∷ bs) e = go (is_class minus c) refl
     go true s = omega (arith, rw (s, implies_token) at e)
     go false s = omega (arith, rw (s, implies_token) at e)
 
+number-first : (n : ℕ) → kind_number (number_kind n) ≡ 4 → ⊥
+unfolding number_kind
+number-first n e = go (ℕ_discrete (n - 15) 0)
+  where
+    go : Dec (n - 15 ≡ 0) → ⊥
+    go (yes z) = omega (arith, rw (le-leb n 15 (omega arith), number_kind) at e)
+    go (no z) = let r : kind_number (at_most 32767 amount n) ≡ 4 = rw (lt-leb n 15 (omega arith), number_kind) at e in omega (arith, (at-most 32767 amount n 3 r).1)
+
+negative-first : (b m : ℕ) (ds : List ℕ) → kind_number (negative_token b ds m).kind ≡ 4 → ⊥
+unfolding negative_token negative_kind
+negative-first b m [] e = omega arith
+negative-first b m (d ∷ ds) e = go (leb 1 (value 0 (d ∷ ds))) refl
+  where
+    go : (t : Bool) → leb 1 (value 0 (d ∷ ds)) ≡ t → ⊥
+    go true s = let r : kind_number (at_most 32768 amount (value 0 (d ∷ ds))) ≡ 4 = rw (s, negative_kind) at e in omega (arith, (at-most 32768 amount (value 0 (d ∷ ds)) 3 r).1)
+    go false s = omega (arith, rw (s, negative_kind) at e)
+
 by-class :
     (c : Class) (b : ℕ) (bs : List ℕ) → ((k : Kind) → c ≡ mark k → 6 ≤ kind_number k) → kind_number (token_from c b bs).kind ≡ 4
     → value 0 (drop 1 (token_from c b bs).bytes) ≤ 1023
@@ -53,11 +71,11 @@ unfolding token_from number_token
 by-class no_class b bs m e = absurd (omega arith)
 by-class space b bs m e = absurd (omega arith)
 by-class letter b bs m e = absurd (omega arith)
-by-class zero_digit b bs m e = absurd (omega (arith, (at-most 15 number (value 0 (numeral (b ∷ bs))) 3 e).1))
-by-class digit b bs m e = absurd (omega (arith, (at-most 15 number (value 0 (numeral (b ∷ bs))) 3 e).1))
+by-class zero_digit b bs m e = absurd (number-first (value 0 (numeral (b ∷ bs))) e)
+by-class digit b bs m e = absurd (number-first (value 0 (numeral (b ∷ bs))) e)
 by-class underscore b bs m e = variable-first b (length (b ∷ bs)) (numeral bs) e
 by-class colon b bs m e = absurd (implies-first b (length (b ∷ bs)) bs e)
-by-class minus b bs m e = absurd (omega arith)
+by-class minus b bs m e = absurd (negative-first b (length (b ∷ bs)) (numeral bs) e)
 by-class (mark k) b bs m e = absurd (omega (arith, m k refl))
 
 small-first : (bs : List ℕ) (t : Token) (ts : List Token) → tokens 0 bs ≡ t ∷ ts → kind_number t.kind ≡ 4 → value 0 (drop 1 t.bytes) ≤ 1023
@@ -71,7 +89,7 @@ small-first (b ∷ bs) t ts e k = go (is_class space b) refl (small-first bs t t
         let f = rw (s, tokens) at e in
         let q : token_from (class_of b) b bs ≡ t = cc in
         let h : kind_number (token_from (class_of b) b bs).kind ≡ 4 = ap (λ t. kind_number t.kind) q ∙ k in
-        rw q at (by-class (class_of b) b bs (mark-kinds b) h)
+        rw q at (by-class (class_of b) b bs (λ k e. (mark-kinds b k e).0) h)
 
 pub variable-small : (text : List ℕ) (at : ℕ) (r : Scanned) → Next text at r → (v : ℕ) → r.kind ≡ Variable v → v ≤ 1023
 variable-small text at r n v e = omega (arith, n.variable v e, small-first (drop at text) (token_of text r) _ n.scanned (ap (λ k. kind_number (kind_of k)) e))

@@ -1,8 +1,8 @@
-// The deck's words of a readable text (document 02, U1).
+// The deck's words of a readable text (document 02, U1 and U10).
 #![tactic(auto)]
 
-ghost use Rattle.std.specs.Prelude.{◌≡◌, ◌++◌, ◌+◌, ◌≤◌, map, length, drop};
-ghost use Rattle.rules.specs.Decks.{header_words};
+ghost use Rattle.std.specs.Prelude.{◌≡◌, ◌++◌, ◌+◌, ◌≤◌, length, drop};
+ghost use Rattle.rules.specs.Decks.{symbol_room, header_words};
 ghost use Rattle.text_rules.specs.Text.{text_words};
 ghost use Rattle.encoding.specs.Encoding.{Encodable};
 
@@ -12,18 +12,22 @@ use sizes::Sizes;
 mod cells;
 mod clauses;
 pub mod sizes;
+mod symbols;
 mod walk;
 
-// The casts here are proved to fit; `try_from` would have an error that cannot come.
-fn put_header(header: &mut [u16], symbols: usize, s: Sizes)
-    requires { (length header.old ≡ 8) × (8 + symbols + s.clauses + s.cells ≤ 16384) }
-    ensures { header.new ≡ header_words symbols s.clauses s.cells }
+// The casts here are proved to fit; `try_from` would have an error that cannot come. `room` is how many words the symbols take.
+fn put_header(header: &mut [u16], format: u16, symbols: usize, room: usize, s: Sizes)
+    requires size { length header.old ≡ 8 }
+    requires room { room ≡ symbol_room format symbols }
+    requires few { symbols ≤ room }
+    requires most { 8 + room + s.clauses + s.cells ≤ 16384 }
+    ensures { header.new ≡ header_words format symbols s.clauses s.cells }
 {
-    let starts = 8 + symbols;
+    let starts = 8 + room;
     let cells = starts + s.clauses;
     let words = cells + s.cells;
     header.copy_from_slice(&[
-        1,
+        format,
         symbols as u16,
         8,
         s.clauses as u16,
@@ -34,26 +38,17 @@ fn put_header(header: &mut [u16], symbols: usize, s: Sizes)
     ]);
 }
 
-// The symbols' words, which were entered with the names.
-fn put_symbols(names: DeclaredNames, words: &mut [u16])
-    requires { length words.old ≡ length names.names.now.entries }
-    ensures { words.new ≡ map (λ e. e.value) names.entry.names.now.entries }
-{
-    for j in 0..names.names.len() {
-        words[j] = names.names.get(j).value;
-    }
-}
-
 // The words of a text of those sizes, at the start of the list.
 pub fn encode(names: DeclaredNames, s: Sizes, deck: &mut [u16])
     requires { Encodable names s (length deck.old) }
     ensures { let text = names.entry.all.text.text.now in deck.new ≡ text_words text ++ drop (length (text_words text)) deck.old }
 {
-    let n = names.names.len();
+    let n = names.all.count;
+    let room = n + names.all.second_words();
     let (header, words) = deck.split_at_mut(8);
-    let (symbols, words) = words.split_at_mut(n);
+    let (symbols, words) = words.split_at_mut(room);
     let (starts, cells) = words.split_at_mut(s.clauses);
-    put_header(header, n, s);
-    put_symbols(names, symbols);
+    put_header(header, names.all.format(), n, room, s);
+    symbols::put_symbols(names, symbols);
     clauses::put_clauses(names, starts, cells);
 }

@@ -19,7 +19,7 @@ use top_level::{Parts, Start};
 fn open_goals(deck: &Opened, counts: OpenCounts, store: &[u16]) -> Result<(usize, usize), Refusal>
     ensures { (d : Deck) → open_deck deck.now.words.now ≡ accepted d → OpenAs d.symbols (check_goals d counts.pending counts.parked counts.terms store.now) store.now result }
 {
-    let goals = stored::deck_goals(&deck.parts(), store, counts).ok_or(Refusal::Goals)?;
+    let goals = stored::deck_goals(deck, store, counts).ok_or(Refusal::Goals)?;
     if !loose::clauses_tight(deck) {
         return Err(Refusal::LooseClause);
     }
@@ -42,7 +42,8 @@ pub fn carry_on(
 ) -> Result<Report, Refusal>
     ensures { RanOn deck.now pending parked terms bars.now budget (slices answers.old store.old scratch.old) (result_of result) (slices answers.new store.new scratch.new) }
 {
-    let opened = Opened::new(deck)?;
+    let mut table = [0; 4096];
+    let opened = Opened::new(deck, &mut table)?;
     sizes(store.len(), scratch.len())?;
     let counts = OpenCounts {
         pending,

@@ -24,11 +24,12 @@ fn sized<'a>(
     query: &[u16],
     store: usize,
     scratch: usize,
+    table: &'a mut [u16; 4096],
 ) -> Result<Opened<'a>, Refusal>
     ensures number { answer_number result ≡ checked_number (check_sized deck.now query.now store scratch) }
     ensures words { IfOk result (λ opened. opened.words.now ≡ deck.now) }
 {
-    let opened = deck::check(deck, query)?;
+    let opened = deck::check(deck, query, table)?;
     sizes(store, scratch)?;
     Ok(opened)
 }
@@ -39,11 +40,12 @@ fn refusal<'a>(
     query: &[u16],
     store: usize,
     scratch: usize,
+    table: &'a mut [u16; 4096],
 ) -> Result<Opened<'a>, Refusal>
     ensures number { answer_number result ≡ checked_number (check_fresh deck.now query.now store scratch) }
     ensures words { IfOk result (λ opened. opened.words.now ≡ deck.now) }
 {
-    let opened = sized(deck, query, store, scratch)?;
+    let opened = sized(deck, query, store, scratch, table)?;
     loose::check(&opened, query)?;
     Ok(opened)
 }
@@ -75,7 +77,8 @@ pub fn run(
 ) -> Result<Report, Refusal>
     ensures { Rattle.rules.specs.Run.Ran deck.now query.now bars.now budget (slices answers.old store.old scratch.old) (result_of result) (slices answers.new store.new scratch.new) }
 {
-    let opened = refusal(deck, query, store.len(), scratch.len())?;
+    let mut table = [0; 4096];
+    let opened = refusal(deck, query, store.len(), scratch.len(), &mut table)?;
     let mut index = Index::blank();
     index.fill(&opened);
     let clauses = Clauses::new(opened, &index);

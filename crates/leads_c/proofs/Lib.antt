@@ -2,3 +2,4 @@ pub mod CallLaws
 pub mod TextLaws
 pub mod DrillLaws
 pub mod LevelLaws
+pub mod MeanLaws

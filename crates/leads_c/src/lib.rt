@@ -9,6 +9,7 @@ ghost use Rattle.leads_c.specs.Calls.{Called, CalledOn, Tells, numbers};
 ghost use Rattle.leads_c.specs.TextCalls.{ReadCalled, WriteCalled};
 ghost use Rattle.leads_c.specs.DrillCalls.{DrillCalled};
 ghost use Rattle.leads_c.specs.LevelCalls.{LevelsCalled, circular_number};
+ghost use Rattle.leads_c.specs.MeanCalls.{MeanCalled, mean_of};
 
 use deck::Refusal;
 use reading::ReadError;
@@ -185,5 +186,29 @@ fn number(named: Option<u16>) -> u32
     match named {
         Some(p) => 1 + u32::from(p),
         None => 0,
+    }
+}
+
+#[unsafe(no_mangle)]
+pub extern "C" fn leads_mean(
+    deck: &[u16],
+    list: &[u16],
+    count: u64,
+    terms: u64,
+    column: u64,
+    sum: &mut i64,
+    whole: &mut i64,
+    remainder: &mut u64,
+) -> u32
+    ensures { MeanCalled deck.now list.now count terms column (mean_of sum.old whole.old remainder.old) result (mean_of sum.new whole.new remainder.new) }
+{
+    match column::column(deck, list, count, terms, column) {
+        Ok(mean) => {
+            *sum = mean.sum;
+            *whole = mean.whole;
+            *remainder = mean.remainder;
+            0
+        }
+        Err(why) => u32::from(why),
     }
 }

@@ -65,6 +65,7 @@ pub fn check(deck: &Opened, query: &[u16]) -> Result<(), Refusal>
 pub fn check_query(deck: &[u16], query: &[u16]) -> Result<(), Refusal>
     ensures { number_of result ≡ checked_number (check_query deck.now query.now) }
 {
-    let opened = deck::check(deck, query)?;
+    let mut table = [0; 4096];
+    let opened = deck::check(deck, query, &mut table)?;
     check(&opened, query)
 }

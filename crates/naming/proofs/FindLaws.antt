@@ -11,6 +11,7 @@ use Rattle.text.specs.Names.{Table, name_at}
 use Rattle.text.specs.Steps.{option_of}
 use Rattle.text.proofs.NameLaws.{last-below, found_some}
 use Rattle.text.proofs.NumberLaws.{Names, Distinct, number_from, found_number_lem}
+use Rattle.naming.specs.declared.declarations.Symbol.{Symbol}
 use Rattle.naming.specs.Table.{Declared}
 use Rattle.naming.proofs.WalkLaws.{twice-later, twice-here}
 
@@ -68,7 +69,7 @@ module _ (ds : List Declaration) (name : ℕ → List ℕ) (e : declared_twice d
       let s = some-injective i j (sym (of_number i (omega arith)) ∙ ap (λ w. number_of w 0 ds) q ∙ of_number j m) in omega arith
 
 -- For callers of `find`: its answer for a name is the number of the rules.
-module _ (t : Table ℕ) (D : Declared t) (w : List ℕ) (r : Code ℕ) (found : r ≡ found_at (last_with (is_name w) (name_at t) (length t.entries))) where
+module _ (t : Table Symbol) (D : Declared t) (w : List ℕ) (r : Code ℕ) (found : r ≡ found_at (last_with (is_name w) (name_at t) (length t.entries))) where
   abbrev last : ℕ
   last = last_with (is_name w) (name_at t) (length t.entries)
 

@@ -1,50 +1,52 @@
 -- Filling the table, one declaration after another.
-use Rattle.std.proofs.Common.{◌≡◌, ℕ, ◌+◌, ◌<◌, ◌⊎◌, inl, inr, List, [], ◌∷◌, length, drop, ap, ap₂, sym, ◌∙◌, subst, arith, add-one, length-append}
+use Rattle.std.proofs.Common.{◌≡◌, ℕ, ◌+◌, ◌<◌, ◌⊎◌, inl, inr, List, [], ◌∷◌, length, get_or, drop, ap, ap₂, sym, ◌∙◌, subst, arith, add-one, length-append}
 use Rattle.std.specs.Prelude.{Option as Code, Some, None}
 use Rattle.std.proofs.Math.Option.{none, some, some-injective}
 use Rattle.std.proofs.Math.ListN.{get_elem?}
 use Rattle.std.specs.List.{slice_range}
 use native.Mathlib.Decide.{dec_lt}
-use Rattle.rules.specs.Decks.{write_symbol}
-use Rattle.text_rules.specs.TextTokens.{tokens}
-use Rattle.text_rules.specs.TextGrammar.{item, unread}
 use Rattle.text_rules.specs.TextWords.{number_of, is_number, declared_twice}
 use Rattle.text_rules.specs.TextWords as rules
-use Rattle.text_rules.specs.Text.{text_declarations, place_of}
+use Rattle.text_rules.specs.Text.{text_declarations, text_unread, place_of}
 use Rattle.text.specs.declared.names.Entry.{Entry}
 use Rattle.text.specs.Hash.{last_with, found_at, is_name}
-use Rattle.text.specs.Names.{Table, no_entry, entry_at, name_at, entered}
+use Rattle.text.specs.Names.{Table, name_at, entered}
 use Rattle.text.proofs.NameLaws.{last-ext, found_none, found_some, entered-old, entered-new, old-name_at, new-name_at}
 use Rattle.text.proofs.NumberLaws.{Names, Distinct, declared-once, declared-again, still-distinct}
 use Rattle.naming.specs.declared.declarations.Declaration.{Declaration}
-use Rattle.naming.specs.Table.{Declared}
-use Rattle.naming.specs.Walks.{symbol_of, declaration_of, Declares, Ends, Passed}
+use Rattle.naming.specs.Table.{no_symbol, symbol_at, Declared}
+use Rattle.naming.specs.declared.declarations.Symbol.{Symbol}
+use Rattle.text.specs.declared.start.Start.{Start}
+use Rattle.text.specs.Starts.{Starts}
+use Rattle.naming.specs.Walks.{symbol_of, value_of, declaration_of, Declares, Ends, Passed}
 use Rattle.naming.specs.Windows.{name_in, name_of}
 use Rattle.naming.proofs.WalkLaws.{passed_none, passed-below, passed-this, passed-one, once-here, again-here, passed-all, once-nowhere}
 use Rattle.naming.proofs.FindLaws.{is_below, is-there, names_of}
 
 -- The declarations up to a place are in the table; their names differ.
-pub record Filled (t : Table ℕ) (at : ℕ) : Type 0 where
+pub record Filled (t : Table Symbol) (at : ℕ) : Type 0 where
   pub passed : Passed t.text at (length t.entries)
   pub names : (j : ℕ) (d : rules.Declaration) → j < length t.entries → get_elem? (text_declarations t.text) j ≡ some d → name_at t j ≡ d.name
-  pub symbol : (j : ℕ) (d : rules.Declaration) → j < length t.entries → get_elem? (text_declarations t.text) j ≡ some d → (entry_at t j).value ≡ write_symbol d.symbol
+  pub symbol : (j : ℕ) (d : rules.Declaration) → j < length t.entries → get_elem? (text_declarations t.text) j ≡ some d → symbol_of (symbol_at t j) ≡ d.symbol
+  pub value : (j : ℕ) (d : rules.Declaration) → j < length t.entries → get_elem? (text_declarations t.text) j ≡ some d → value_of (symbol_at t j) ≡ d.value
   pub distinct : Distinct (name_of (text_declarations t.text)) (length t.entries)
   pub once :
       declared_twice (text_declarations t.text) 0 (text_declarations t.text)
       ≡ declared_twice (text_declarations t.text) (length t.entries) (drop (length t.entries) (text_declarations t.text))
 
-pub none_filled : (t : Table ℕ) → t.entries ≡ [] → unread item (tokens 0 t.text) ≡ none → Filled t 0
-none_filled t z e =
+pub none_filled : (t : Table Symbol) (r : Start) → Starts t.text r → t.entries ≡ [] → text_unread t.text ≡ none → Filled t r.at
+none_filled t r h z e =
     let n : length t.entries ≡ 0 = ap length z in
     record {
-      passed = subst (Passed t.text 0) (sym n) (passed_none t.text e);
+      passed = subst (Passed t.text r.at) (sym n) (passed_none t.text r h e);
       names = λ j d l q. absurd (omega arith);
       symbol = λ j d l q. absurd (omega arith);
+      value = λ j d l q. absurd (omega arith);
       distinct = λ i j l m q. omega arith;
       once = ap (λ k. declared_twice (text_declarations t.text) k (drop k (text_declarations t.text))) (sym n);
     }
 
-module _ (t : Table ℕ) (at : ℕ) (f : Filled t at) where
+module _ (t : Table Symbol) (at : ℕ) (f : Filled t at) where
   abbrev ds : List rules.Declaration
   ds = text_declarations t.text
 
@@ -59,6 +61,7 @@ module _ (t : Table ℕ) (at : ℕ) (f : Filled t at) where
         count = size;
         names = λ j d q. f.names j d (omega (arith, size, is_below ds j d q)) q;
         symbol = λ j d q. f.symbol j d (omega (arith, size, is_below ds j d q)) q;
+        value = λ j d q. f.value j d (omega (arith, size, is_below ds j d q)) q;
         distinct = once-nowhere t.text at n f.passed h f.once;
       }
 
@@ -93,7 +96,7 @@ module _ (t : Table ℕ) (at : ℕ) (f : Filled t at) where
           ∙ declared-again ds (name_of ds) all-names n below f.distinct (λ z. omega (arith, same-last)))
 
       -- The declaration entered.
-      module _ (z : r ≡ None) (x : Entry ℕ) (same_from : x.from ≡ d.from) (same_to : x.to ≡ d.to) (is_word : x.value ≡ write_symbol (symbol_of d.key d.arity)) where
+      module _ (z : r ≡ None) (x : Entry Symbol) (same_from : x.from ≡ d.from) (same_to : x.to ≡ d.to) (is_symbol : x.value ≡ d.symbol) where
         not-found : last_with (is_name (name_of ds n)) (name_of ds) n ≡ 0
         not-found = same-last ∙ found_none (last_with (is_name this) (name_at t) n) (sym z ∙ e)
 
@@ -115,10 +118,19 @@ module _ (t : Table ℕ) (at : ℕ) (f : Filled t at) where
             ∙ ap₂ (slice_range t.text) same_from same_to
             ∙ ap (λ (u : rules.Declaration). u.name) (last-is j y e q)
 
-        new-symbol : (j : ℕ) (y : rules.Declaration) → (j < n) ⊎ (j ≡ n) → get_elem? ds j ≡ some y → (entry_at (entered t x) j).value ≡ write_symbol y.symbol
-        new-symbol j y (inl l) q = ap (λ (u : Entry ℕ). u.value) (entered-old t x no_entry j l) ∙ f.symbol j y l q
-        new-symbol j y (inr e) q =
-            ap (λ (u : Entry ℕ). u.value) (ap (entry_at (entered t x)) e ∙ entered-new t x no_entry) ∙ is_word ∙ ap (λ (u : rules.Declaration). write_symbol u.symbol) (last-is j y e q)
+        old-symbol : (j : ℕ) → j < n → symbol_at (entered t x) j ≡ symbol_at t j
+        old-symbol j l = ap (λ (u : Entry Symbol). u.value) (entered-old t x no_symbol j l)
+
+        last-symbol : (j : ℕ) → j ≡ n → symbol_at (entered t x) j ≡ d.symbol
+        last-symbol j e = ap (λ (u : Entry Symbol). u.value) (ap (λ i. get_or (entered t x).entries i no_symbol) e ∙ entered-new t x no_symbol) ∙ is_symbol
+
+        new-symbol : (j : ℕ) (y : rules.Declaration) → (j < n) ⊎ (j ≡ n) → get_elem? ds j ≡ some y → symbol_of (symbol_at (entered t x) j) ≡ y.symbol
+        new-symbol j y (inl l) q = ap symbol_of (old-symbol j l) ∙ f.symbol j y l q
+        new-symbol j y (inr e) q = ap symbol_of (last-symbol j e) ∙ ap (λ (u : rules.Declaration). u.symbol) (last-is j y e q)
+
+        new-value : (j : ℕ) (y : rules.Declaration) → (j < n) ⊎ (j ≡ n) → get_elem? ds j ≡ some y → value_of (symbol_at (entered t x) j) ≡ y.value
+        new-value j y (inl l) q = ap value_of (old-symbol j l) ∙ f.value j y l q
+        new-value j y (inr e) q = ap value_of (last-symbol j e) ∙ ap (λ (u : rules.Declaration). u.value) (last-is j y e q)
 
         pub filled-one : Filled (entered t x) d.end
         filled-one =
@@ -126,6 +138,7 @@ module _ (t : Table ℕ) (at : ℕ) (f : Filled t at) where
               passed = subst (Passed t.text d.end) (sym size) (passed-one t.text at n f.passed d h);
               names = λ j y l q. new-name j y (at_last j (omega (arith, size)) (dec_lt j n)) q;
               symbol = λ j y l q. new-symbol j y (at_last j (omega (arith, size)) (dec_lt j n)) q;
+              value = λ j y l q. new-value j y (at_last j (omega (arith, size)) (dec_lt j n)) q;
               distinct = subst (Distinct (name_of ds)) (sym (size ∙ add-one n)) (still-distinct ds (name_of ds) all-names n below f.distinct not-found);
               once =
                   once-here t.text at n f.passed d h f.once

@@ -7,7 +7,9 @@ use Rattle.text_rules.specs.TextTokens.{tokens}
 use Rattle.text_rules.specs.TextGrammar.{item, unread}
 use Rattle.text_rules.specs.TextWords.{declarations, clause_tokens, number_of, is_number, declared_twice}
 use Rattle.text_rules.specs.TextWords as rules
-use Rattle.text_rules.specs.Text.{text_declarations, place_of}
+use Rattle.text_rules.specs.Text.{numbers_in, text_declarations, text_unread, place_of}
+use Rattle.text.specs.declared.start.Start.{Start}
+use Rattle.text.specs.Starts.{Starts}
 use Rattle.naming.specs.declared.declarations.Declaration.{Declaration}
 use Rattle.text.specs.Hash.{last_with, found_at, is_name}
 use Rattle.text.specs.Names.{Table, name_at}
@@ -18,7 +20,7 @@ use Rattle.std.specs.Option.{is_some}
 use mathlib.Core.Bool.{false≢true}
 use Rattle.naming.specs.declared.walks.Walk.{Walk}
 use Rattle.naming.specs.Steps.{Onward, GivesDeclaration}
-use Rattle.naming.specs.Walks.{declaration_of, Declares, Ends, At, Passed, Counted}
+use Rattle.naming.specs.Walks.{declaration_of, Declares, Ends, At, Passed, AllCounted}
 
 -- The first of what is left of a list.
 drop-first :
@@ -39,10 +41,17 @@ module _ (all : List rules.Declaration) (at : ℕ) (d : rules.Declaration) (ds :
   unfolding declared_twice
   twice-here e = rw (e, declared_twice)
 
-pub passed_none : (text : List ℕ) → unread item (tokens 0 text) ≡ none → Passed text 0 0
-unfolding text_declarations
-passed_none text e =
-    record { inside = omega arith; few = omega arith; below = omega arith; rest = refl; clauses = refl; readable = e }
+pub passed_none : (text : List ℕ) (r : Start) → Starts text r → text_unread text ≡ none → Passed text r.at 0
+unfolding text_declarations text_unread
+passed_none text r h e =
+    record {
+      inside = h.inside;
+      few = omega arith;
+      below = omega arith;
+      rest = ap (declarations 0) (sym h.items);
+      clauses = ap (clause_tokens 0) (sym h.items);
+      readable = ap (unread (item (numbers_in text))) h.items ∙ e;
+    }
 
 module _ (text : List ℕ) (at n : ℕ) (p : Passed text at n) where
   abbrev ds : List rules.Declaration
@@ -99,7 +108,7 @@ module _ (text : List ℕ) (at n : ℕ) (p : Passed text at n) where
     pub passed-all : length ds ≡ n
     passed-all = omega (arith, p.below, length-drop n ds, ap length nothing)
 
-    pub passed_counted : Counted text n at
+    pub passed_counted : AllCounted text n at
     passed_counted = record { count = passed-all; inside = p.inside; clauses = p.clauses ∙ h.clauses }
 
     pub once-nowhere : declared_twice ds 0 ds ≡ declared_twice ds n (drop n ds) → declared_twice ds 0 ds ≡ none

@@ -3,6 +3,7 @@ ghost use Rattle.std.specs.Prelude.{◌≡◌, []};
 ghost use Rattle.std.proofs.Props.{props};
 ghost use Rattle.naming.specs.Table.{Declared};
 
+use crate::declarations::Symbol;
 use crate::walks::{Declarations, Walk};
 use text::names::{Entry, Names, ROOM};
 use text::readable::Readable;
@@ -14,11 +15,11 @@ pub enum NameError {
     Many,
 }
 
-// The declarations of a text, and a table with the name of each and its symbol's word.
+// The declarations of a text, and a table with the name of each and its symbol.
 #[derive(Clone, Copy)]
 pub struct DeclaredNames<'t, 'a> {
     pub all: Declarations<'a>,
-    pub names: &'t Names<'a, u16, ROOM>,
+    pub names: &'t Names<'a, Symbol, ROOM>,
     ghost same: { names.now.text ≡ all.text.text.now },
     ghost declared: { Declared names.now } by { Prim.hlevel props },
 }
@@ -29,13 +30,13 @@ impl<'t, 'a> DeclaredNames<'t, 'a> {
     // Enters them in the table, which has no names yet. A table may be of any text, so `same` says that it is this one.
     pub fn new(
         text: Readable<'a>,
-        names: &'t mut Names<'a, u16, ROOM>,
+        names: &'t mut Names<'a, Symbol, ROOM>,
     ) -> Result<DeclaredNames<'t, 'a>, NameError>
         requires same { names.old.text ≡ text.text.now }
         requires empty { names.old.entries ≡ [] }
         ensures { DidDeclare text.entry result }
     {
-        let mut end = 0;
+        let mut end = text.start.at;
         for d in Walk::new(text) {
             if names.len() == ROOM {
                 return Err(NameError::Many);
@@ -46,7 +47,7 @@ impl<'t, 'a> DeclaredNames<'t, 'a> {
             names.enter(Entry {
                 from: d.from,
                 to: d.to,
-                value: d.word(),
+                value: d.symbol,
             });
             end = d.end;
         }

@@ -2,7 +2,7 @@
 ghost use Rattle.std.specs.Prelude.{◌≡◌, ◌+◌, ◌≤◌, ◌<◌, length};
 ghost use Rattle.std.proofs.Props.{props};
 ghost use Rattle.text_rules.specs.Text.{text_declarations};
-ghost use Rattle.naming.specs.Walks.{Passed, Counted};
+ghost use Rattle.naming.specs.Walks.{Passed, AllCounted};
 
 use crate::declarations::{Declaration, item_at};
 use text::readable::Readable;
@@ -19,12 +19,12 @@ pub struct Walk<'a> {
 impl<'a> Walk<'a> {
     // At the first declaration.
     pub fn new(text: Readable<'a>) -> Walk<'a>
-        ensures { (result.text ≡ text.entry) × (result.count ≡ 0) × (result.at ≡ 0) }
+        ensures { (result.text ≡ text.entry) × (result.count ≡ 0) × (result.at ≡ text.entry.start.at) }
     {
         Walk {
             text,
             count: 0,
-            at: 0,
+            at: text.start.at,
         }
     }
 }
@@ -52,7 +52,32 @@ pub struct Declarations<'a> {
     pub text: Readable<'a>,
     pub count: usize,
     pub end: usize,
-    ghost counted: { Counted text.text.now count end } by { Prim.hlevel props },
+    ghost counted: { AllCounted text.text.now count end } by { Prim.hlevel props },
+}
+
+impl Declarations<'_> {
+    ghost use Rattle.rules.specs.Decks.{format_number, symbol_room};
+    ghost use Rattle.text_rules.specs.Text.{text_format};
+
+    // The number of the deck's format.
+    #[tactic(auto, unfolding(text_rules::specs::Text::text_format, text_rules::specs::TextWords::format_from))]
+    pub fn format(&self) -> u16
+        ensures { result ≡ format_number (text_format self.now.text.text.now) }
+    {
+        if self.text.start.numbers { 2 } else { 1 }
+    }
+
+    // The second words of the symbols, which format 2 has.
+    #[tactic(auto, unfolding(text_rules::specs::Text::text_format, text_rules::specs::TextWords::format_from, rules::specs::Decks::symbol_room))]
+    pub fn second_words(&self) -> usize
+        ensures { self.now.count + result ≡ symbol_room (format_number (text_format self.now.text.text.now)) (length (text_declarations self.now.text.text.now)) }
+    {
+        if self.text.start.numbers {
+            self.count
+        } else {
+            0
+        }
+    }
 }
 
 // Counted beside the walk, which has the same two numbers: the `for` uses it up.
@@ -60,7 +85,7 @@ pub fn count<'a>(text: Readable<'a>) -> Declarations<'a>
     ensures { result.text ≡ text.entry }
 {
     let mut count = 0;
-    let mut end = 0;
+    let mut end = text.start.at;
     for d in Walk::new(text) {
         count += 1;
         end = d.end;

@@ -1,19 +1,17 @@
 -- What the program's run comes to, test by test, and what the run on the program's buffers returns and leaves.
 use Prim.Native.Nat.{ℕ, zero, suc, ◌≤◌}
 use mathlib.Core.Path.{◌≡◌, refl, ap, ◌∙◌, subst}
-use mathlib.Core.Bool.{true}
 use mathlib.Core.Option.{Option}
 use mathlib.Core.List.{List, ◌∷◌}
 use native.Mathlib.Omega.{arith}
 use lib.ListN.{length, take, replicate, length-replicate}
 use Rattle.rules.specs.Syntax.{Deck}
 use Rattle.rules.specs.Refusals.{Refusal, Checked, refused, accepted, and_then}
-use Rattle.rules.specs.Decks.{header_fits, open_deck}
+use Rattle.rules.specs.Decks.{open_deck}
 use Rattle.rules.specs.Evaluation.{Outcome}
 use Rattle.rules.specs.Run.{run, Report, report, returned, answers_after, Slices, Filled, Leaves, run_on, Ran}
 use Rattle.rules.specs.Program.{deck_file, query_input, program_run}
 use Rattle.rules.specs.CarryProgram.{deck_input}
-use Rattle.rules.proofs.DeckLaws.{steps-open}
 use Rattle.program.specs.Runs.{words_run}
 
 -- A check, and then others.
@@ -118,7 +116,3 @@ module _ (deck_words query_words bars : List ℕ) (d : Deck) (o : open_deck deck
       let t = returned-accepted _ r ran.returns in
       let left : Filled t.0 entry exit = subst (λ (x : Checked Outcome). Leaves x entry exit) t.1 ran.leaves in
       (t.0, same-run ∙ t.1, t.2, left.answers)
-
--- A deck on which a run is accepted has a header that fits.
-pub header-fits : (deck_words : List ℕ) (d : Deck) → open_deck deck_words ≡ accepted d → header_fits deck_words ≡ true
-header-fits deck_words d e = (steps-open deck_words d e).fits

@@ -47,7 +47,8 @@ fn asked(deck: Option<&[u8]>, query: &[u8], out: &mut [u8; 65605]) -> Result<usi
 fn listed(deck: &[u16], query: &[u16], out: &mut [u8; 65605]) -> Result<usize, Refusal>
     ensures { Prints listing (words_run deck.now query.now) out.old result out.new }
 {
-    let opened = Opened::new(deck)?;
+    let mut table = [0; 4096];
+    let opened = Opened::new(deck, &mut table)?;
     let zeros = [0; 4096];
     let mut lists = Lists::new();
     let report = evaluation::run(
@@ -59,8 +60,7 @@ fn listed(deck: &[u16], query: &[u16], out: &mut [u8; 65605]) -> Result<usize, R
         &mut lists.store,
         &mut lists.scratch,
     )?;
-    let symbols = deck::parts::symbols(deck);
     let mut out = Output::new(out);
-    out.put_listing(report, &lists.answers, symbols);
+    out.put_listing(report, &lists.answers, opened.symbols());
     Ok(out.at)
 }

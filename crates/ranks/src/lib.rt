@@ -23,7 +23,8 @@ mod searching;
 pub fn levels(deck: &[u16], list: &mut [u16]) -> Result<Option<u16>, Refusal>
     ensures { Answers deck.now result list.old list.new }
 {
-    let opened = Opened::new(deck)?;
+    let mut table = [0; 4096];
+    let opened = Opened::new(deck, &mut table)?;
     let mut numbers = [0; 4096];
     if raising::rank(&opened, &mut numbers) {
         hand(&numbers, list);

@@ -1,5 +1,5 @@
 -- What the program over levels prints, answer by answer. Assumes nothing.
-use Rattle.std.proofs.Common.{◌≡◌, ℕ, ◌+◌, ◌*◌, ◌≤◌, List, [], ◌∷◌, ◌++◌, length, Option, Some, None, Result, Ok, Err, refl, sym, ap, ◌∙◌, subst, arith}
+use Rattle.std.proofs.Common.{◌≡◌, ℕ, List, ◌++◌, length, Option, Some, None, Result, Ok, Err, refl, sym, subst}
 use Rattle.std.proofs.Math.Option as math
 use Rattle.rules.specs.Refusals.{accepted, refused}
 use Rattle.rules.specs.Listing.{listing}

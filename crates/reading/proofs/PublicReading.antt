@@ -1,5 +1,5 @@
 -- What the contract of `read_text` says: what is read opens, with what number a list is refused, and that reading what was written gives the words again.
-use Prim.Native.Nat.{ℕ, ◌≤◌}
+use Prim.Native.Nat.{ℕ, ◌≤◌, ◌<◌}
 use mathlib.Core.Path.{◌≡◌, refl, ap, sym, ◌∙◌, subst}
 use mathlib.Core.Bool.{Bool, true, false}
 use mathlib.Core.List.{List, ◌++◌}
@@ -11,6 +11,7 @@ use denote.Triple.Clauses.{AtExit}
 use borrow.Fn.World.{ArgsD}
 use Rattle.rules.specs.Syntax.{Deck}
 use Rattle.rules.specs.Refusals.{bad_text, no_room, refusal_number, Checked, refused, accepted, and_then, require, checked_number}
+use Rattle.rules.specs.WellFormed.{All}
 use Rattle.rules.specs.Decks.{open_deck}
 use Rattle.text_rules.specs.TextWriter.{deck_text}
 use Rattle.text_rules.specs.Text.{text_words, bad_place, absent, read_text}
@@ -90,11 +91,11 @@ module _ (text before : List ℕ) (r : Result ℕ ReadError) (after : List ℕ) 
   is-words n (Err (Refused why)) q = let z : ◌≡◌ {A = ℕ} 0 1 = cc in absurd (omega arith)
 
   pub read_again :
-      (words : List ℕ) (d : Deck) → open_deck words ≡ accepted d → text ≡ deck_text d → length words ≤ length before
+      (words : List ℕ) (d : Deck) → open_deck words ≡ accepted d → All (λ w. w < 65536) words → text ≡ deck_text d → length words ≤ length before
       → (r ≡ Ok (length words)) × (after ≡ words ++ drop (length words) before)
   unfolding count_of
-  read_again words d o t l =
-      let again : rule ≡ accepted words = ap (λ bs. read_text bs (length before)) t ∙ (text-again words d o (length (deck_text d)) (length before) (omega arith) l).1 in
+  read_again words d o a t l =
+      let again : rule ≡ accepted words = ap (λ bs. read_text bs (length before)) t ∙ (text-again words d o a (length (deck_text d)) (length before) (omega arith) l).1 in
       (is-words (length words) r (did.returns ∙ ap count_of again), did.written words again)
 
 -- The same of the generated reading of the contract (`Post`).
@@ -108,6 +109,6 @@ module _ (κs : Lfts 2) (entry : ArgsD signature κs) (exit : AtExit ended κs) 
   public-refusal why post = read-refusal entry.0.now entry.1.0.now (Err (Refused why)) exit.1.0.now post why refl
 
   pub public-again :
-      (r : Result ℕ ReadError) → Post κs entry r exit → (words : List ℕ) (d : Deck) → open_deck words ≡ accepted d → entry.0.now ≡ deck_text d
+      (r : Result ℕ ReadError) → Post κs entry r exit → (words : List ℕ) (d : Deck) → open_deck words ≡ accepted d → All (λ w. w < 65536) words → entry.0.now ≡ deck_text d
       → length words ≤ length entry.1.0.now → (r ≡ Ok (length words)) × (exit.1.0.now ≡ words ++ drop (length words) entry.1.0.now)
   public-again r post = read_again entry.0.now entry.1.0.now r exit.1.0.now post

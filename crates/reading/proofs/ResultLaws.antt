@@ -1,5 +1,5 @@
 -- What reading comes to, test by test.
-use Prim.Native.Nat.{ℕ, ◌+◌, ◌≤◌, ◌<◌}
+use Prim.Native.Nat.{ℕ, ◌≤◌, ◌<◌}
 use mathlib.Core.Path.{◌≡◌, refl, ap, sym, ◌∙◌}
 use mathlib.Core.Bool.{Bool, true, false, ◌&&◌, and-eq-true_iff}
 use mathlib.Core.Option.{Option, none, some}
@@ -11,11 +11,9 @@ use lib.Dec.{leb}
 use borrow.Author.Tests.{leb-true}
 use Rattle.rules.specs.Syntax.{Deck}
 use Rattle.rules.specs.Refusals.{Refusal, bad_text, no_room, refusal_number, Checked, refused, accepted, and_then, require, checked_number}
-use Rattle.rules.specs.Decks.{header_words, header, header_fits, symbol_words, clause_words, term_cells, read_symbol, read_clause, read_all, starts_fit, clause_rows, rows_short, open_deck}
-use Rattle.text_rules.specs.TextTokens.{tokens}
-use Rattle.text_rules.specs.TextGrammar.{item, unread}
+use Rattle.rules.specs.Decks.{header_words, header, header_fits, symbol_words, clause_words, term_cells, read_symbol, read_format, read_clause, read_all, starts_fit, clause_rows, rows_short, open_deck}
 use Rattle.text_rules.specs.TextWords.{declared_twice, misused, deck_from}
-use Rattle.text_rules.specs.Text.{text_declarations, text_entries, text_words, or_else, bad_left, place_of, bad_place, absent, read_text}
+use Rattle.text_rules.specs.Text.{text_declarations, text_entries, text_unread, text_words, or_else, bad_left, place_of, bad_place, absent, read_text}
 use Rattle.deck.specs.declared.Refusal.{Refusal as Why}
 use Rattle.deck.specs.declared.Refusal.TheVariants.{Room}
 use Rattle.deck.specs.Answers.{number_of, refusal_for}
@@ -24,10 +22,10 @@ use Rattle.deck.specs.Kinds.{symbols_of}
 use Rattle.deck.proofs.OpenLaws.{unless, fails, clauses_number, short_number, starts_number, symbols_number, open-number}
 use Rattle.deck.proofs.RefusalLaws.{number-accepts, number-refuses}
 use Rattle.rules.proofs.DeckLaws.{fit-facts}
-use Rattle.naming.specs.Walks.{Counted}
 use Rattle.naming.specs.declared.table.DeclaredNames.{DeclaredNames}
 use Rattle.encoding.specs.declared.sizes.Sizes.{Sizes}
 use Rattle.encoding.specs.Walk.{Sized}
+use Rattle.encoding.specs.Encoding.{total}
 use Rattle.encoding.proofs.EncodeLaws.{words-length}
 use Rattle.std.specs.Prelude.{Ok, Err}
 use Rattle.reading.specs.declared.ReadError.TheVariants.{Unreadable, Refused}
@@ -46,7 +44,7 @@ place-some text (some n) other p e = e
 
 module _ (text : List ℕ) where
   abbrev pub grammar : Option ℕ
-  grammar = unread item (tokens 0 text)
+  grammar = text_unread text
 
   abbrev pub twice : Option ℕ
   twice = declared_twice (text_declarations text) 0 (text_declarations text)
@@ -115,10 +113,11 @@ open-most ws =
     let rows = clause_rows (term_cells ws) (clause_words ws) in
     rw (open-number ws)
     (unless-most (header_fits ws) 1 (symbols_number ws) 5 (omega arith)
-    (unless-most (found (read_all read_symbol (symbol_words ws))) 2 (starts_number ws) 5 (omega arith)
+    (unless-most (found (read_all read_symbol (symbol_words ws))) 2 (unless (found (read_format ws)) 2 (starts_number ws)) 5 (omega arith)
+    (unless-most (found (read_format ws)) 2 (starts_number ws) 5 (omega arith)
     (unless-most (starts_fit (length (term_cells ws)) (clause_words ws)) 3 (short_number ws) 5 (omega arith)
     (unless-most (rows_short rows) 4 (clauses_number ws) 5 (omega arith)
-    (unless-most (found (read_all (read_clause (symbols_of (symbol_words ws))) rows)) 5 0 5 (omega arith) (omega arith))))))
+    (unless-most (found (read_all (read_clause (symbols_of (symbol_words ws))) rows)) 5 0 5 (omega arith) (omega arith)))))))
 
 -- The call's answer.
 not-accepted : {A : Type 0} {n : Refusal} {a : A} → refused n ≡ accepted a → ⊥
@@ -198,12 +197,11 @@ many-symbols text l = sym (open-number (text_words text) ∙ fails (header_fits 
     go false e = e
 
 -- The sizes that the code counts.
-module _ (text : List ℕ) (n end : ℕ) (s : Sizes) (c : Counted text n end) (z : Sized (text_entries text) s) where
-  pub size-total : 8 + n + s.clauses + s.cells ≡ length (text_words text)
-  size-total = omega (arith, words-length text, c.count, z.clauses, z.cells)
+module _ (text : List ℕ) (s : Sizes) (z : Sized (text_entries text) s) where
+  pub size-total : total text s ≡ length (text_words text)
+  size-total = omega (arith, words-length text, z.clauses, z.cells)
 
-  pub fits-fitting :
-      (room : ℕ) (b : Bool) → b ≡ (leb (8 + n + s.clauses + s.cells) room && leb (8 + n + s.clauses + s.cells) 16384) → fitting text room ≡ b
+  pub fits-fitting : (room : ℕ) (b : Bool) → b ≡ (leb (total text s) room && leb (total text s) 16384) → fitting text room ≡ b
   fits-fitting room b e = sym (e ∙ ap (λ k. leb k room && leb k 16384) size-total)
 
   -- They fit.
@@ -211,10 +209,10 @@ module _ (text : List ℕ) (n end : ℕ) (s : Sizes) (c : Counted text n end) (z
     within : (leb (length (text_words text)) room ≡ true) × (leb (length (text_words text)) 16384 ≡ true)
     within = (and-eq-true_iff (leb (length (text_words text)) room) (leb (length (text_words text)) 16384)).0 f
 
-    pub total-room : 8 + n + s.clauses + s.cells ≤ room
+    pub total-room : total text s ≤ room
     total-room = omega (arith, size-total, leb-true (length (text_words text)) room within.0)
 
-    pub total-most : 8 + n + s.clauses + s.cells ≤ 16384
+    pub total-most : total text s ≤ 16384
     total-most = omega (arith, size-total, leb-true (length (text_words text)) 16384 within.1)
 
 -- The words in front of a list.

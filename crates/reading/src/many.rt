@@ -43,7 +43,7 @@ fn refusal(all: Declarations, words: usize) -> Refusal
     ensures { (before : List ℕ) → length before ≡ words → DidRead all.entry.text.text.now before (Err (Refused result)) before }
 {
     let s = sizes::sizes_of(all);
-    if room::fits(all.count, s, words) {
+    if room::fits(all, s, words) {
         Refusal::Header
     } else {
         Refusal::Room

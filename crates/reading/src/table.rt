@@ -40,12 +40,12 @@ fn read_used(names: DeclaredNames, deck: &mut [u16]) -> Result<usize, ReadError>
     ensures { DidRead names.entry.all.text.text.now deck.old result deck.new }
 {
     let s = sizes::sizes_of(names.all);
-    let n = names.all.count;
-    if !room::fits(n, s, deck.len()) {
+    if !room::fits(names.all, s, deck.len()) {
         return Err(ReadError::Refused(Refusal::Room));
     }
     encoding::encode(names, s, deck);
-    let total = 8 + n + s.clauses + s.cells;
+    let symbols = names.all.count + names.all.second_words();
+    let total = 8 + symbols + s.clauses + s.cells;
     deck::open(&deck[..total])?;
     Ok(total)
 }

@@ -171,7 +171,7 @@ module _ (deck_words : List ℕ) (pending parked terms budget : ℕ) (entry exit
 module _ (deck_words : List ℕ) (pending parked terms : ℕ) (bars : List ℕ) (budget : ℕ) (entry exit : Slices) (r : Report)
     (ran : RanOn deck_words pending parked terms bars budget entry (accepted r) exit) where
   -- What holds of the accepted outcome holds of the run.
-  accepted-on {ℓ} : (Q : Report → Type ℓ)
+  pub accepted-on {ℓ} : (Q : Report → Type ℓ)
       → ((o : Outcome) → AcceptedOn deck_words pending parked terms budget (length entry.answers) entry.store o → Filled o entry exit → Q (report o)) → Q r
   unfolding Leaves returned carry_from
   accepted-on Q h = go (carry_from deck_words pending parked terms bars budget entry) refl ran.returns ran.leaves
@@ -216,7 +216,7 @@ module _ (deck_words : List ℕ) (pending parked terms : ℕ) (bars : List ℕ) 
   carries-on = accepted-on (λ x. CarriesOn deck_words terms x exit) (λ o a left. carries-of deck_words pending parked terms budget entry exit o a left)
 
 -- After a fresh run too; the number of answer terms is that of the query's variables.
-variables-count : (vs : List ℕ) → count (variables vs) ≡ length vs
+pub variables-count : (vs : List ℕ) → count (variables vs) ≡ length vs
 unfolding variables
 variables-count [] = refl
 variables-count (v ∷ vs) = ap suc (variables-count vs)

@@ -4,12 +4,12 @@ use mathlib.Core.Logic.{inl, inr, ∥∥₁_elim}
 use mathlib.Core.HLevel.{⊥_prop}
 use mathlib.Core.List.{[], ◌∷◌}
 use Rattle.rules.specs.Terms.{nil}
-use Rattle.rules.specs.Syntax.{predicate, neg, Deck}
+use Rattle.rules.specs.Syntax.{predicate, neg, format1, Deck}
 use Rattle.rules.specs.Meaning.{node, inil, Interpretation, Satisfies}
 use Rattle.rules.specs.ThreeValues.{Interpretation3, Satisfies3}
 
 abbrev pub contradiction : Deck
-contradiction = record { symbols = predicate 0 ∷ []; clauses = record { predicate = 0; arguments = nil; body = neg 0 nil ∷ [] } ∷ [] }
+contradiction = record { format = format1; symbols = predicate 0 ∷ []; clauses = record { predicate = 0; arguments = nil; body = neg 0 nil ∷ [] } ∷ [] }
 
 pub contradiction-none : (I : Interpretation) → ¬ Satisfies I contradiction
 unfolding Satisfies

@@ -1,71 +1,22 @@
 -- Decks and queries: a well-formed deck, written as words, opens as that deck, and whatever opens is the writing of the well-formed deck
 -- that it opens as; the same for a query's cells.
-use Prim.Native.Nat.{ℕ, suc, ◌+◌, ◌-◌, ◌≤◌, ◌<◌}
+use Prim.Native.Nat.{ℕ, suc, ◌+◌, ◌-◌, ◌*◌, ◌≤◌, ◌<◌}
 use mathlib.Core.Path.{◌≡◌, refl, ap, ap₂, sym, ◌∙◌, subst}
 use mathlib.Core.Bool.{Bool, true, false, ◌&&◌, and-eq-true_iff}
 use mathlib.Core.Option.{Option, none, some, none-ne-some, some-injective}
 use mathlib.Core.List.{List, [], ◌∷◌, ◌++◌, map, append_assoc, append-nil}
 use native.Mathlib.Omega.{arith}
-use lib.ListN.{length, take, drop, length-append, length-map, length-drop, take-append-drop}
+use lib.ListN.{length, take, drop, length-append, length-drop, take-append-drop}
 use lib.Seq.{take_at, drop_at, length-take-le, drop-cons, drop-drop}
 use lib.Dec.{leb, ltb, eqb}
-use borrow.Author.Tests.{le-leb, lt-leb, lt-ltb, eq-eqb, leb-true, ltb-true, eqb-true}
-use Rattle.rules.specs.Syntax.{Symbol, functor, predicate, Literal, pos, neg, Clause, Deck, vars_literals}
+use borrow.Author.Tests.{le-leb, lt-ltb, eq-eqb, leb-true, ltb-true, eqb-true, eqb-false}
+use Rattle.rules.specs.Syntax.{Symbol, Literal, pos, neg, Clause, Format, format1, format2, Deck, vars_literals}
 use Rattle.rules.specs.Cells.{write_literals, read_literals}
 use Rattle.rules.specs.Refusals.{Refusal, bad_header, bad_symbol, bad_starts, long_clause, bad_clause, long_query, bad_query, Checked, refused, accepted, and_then, require, obtain}
-use Rattle.rules.specs.Decks.{write_symbol, read_symbol, write_clause, head_and_body, read_clause, clauses_cells, clause_starts, header_words, write_deck, header, header_fits, symbol_words, clause_words, term_cells, read_next, read_all, rising, starts_fit, clause_row, clause_rows, rows_short, open_deck, read_query}
-use Rattle.rules.specs.WellFormed.{All, WfLiterals, InOrder, clause_literals, WfClause, WfSymbol, WfDeck, WfQuery}
+use Rattle.rules.specs.Decks.{write_symbol, write_symbols, format_number, symbol_room, read_symbol, write_clause, head_and_body, read_clause, clauses_cells, clause_starts, header_words, write_deck, header, header_fits, symbol_part, kind_words, symbol_words, clause_words, term_cells, read_all, read_values, keep_distinct, read_format, rising, starts_fit, clause_row, clause_rows, rows_short, open_deck, read_query}
+use Rattle.rules.specs.WellFormed.{All, WfLiterals, InOrder, clause_literals, WfClause, WfSymbol, WfFormat, WfDeck, WfQuery}
 use Rattle.rules.proofs.CellLaws.{read-in_order, in_order-reads}
-
-both : (a b : Bool) → a ≡ true → b ≡ true → (a && b) ≡ true
-both a b p q = (and-eq-true_iff a b).1 (p, q)
-
--- Every element is read as what it was written for, and the other way round.
-all_read {ℓ κ} :
-    {A : Type ℓ} {B : Type κ} (read : A → Option B) (write : B → A) (P : B → Type 0) → ((b : B) → P b → read (write b) ≡ some b) → (bs : List B) → All P bs
-    → read_all read (map write bs) ≡ some bs
-unfolding read_all read_next
-all_read read write P h [] w = refl
-all_read read write P h (b ∷ bs) w = ap₂ read_next (h b w.0) (all_read read write P h bs w.1)
-
-read_next_lem {κ} : {B : Type κ} (o : Option B) (os : Option (List B)) (bs : List B) → read_next o os ≡ some bs → (b : B) × (bs' : List B) × (o ≡ some b) × (os ≡ some bs') × (b ∷ bs' ≡ bs)
-unfolding read_next
-read_next_lem none os bs e = absurd (none-ne-some bs e)
-read_next_lem (some b) none bs e = absurd (none-ne-some bs e)
-read_next_lem (some b) (some bs') bs e = (b, bs', refl, refl, some-injective (b ∷ bs') bs e)
-
-all-written {ℓ κ} :
-    {A : Type ℓ} {B : Type κ} (read : A → Option B) (write : B → A) (P : B → Type 0) → ((a : A) (b : B) → read a ≡ some b → (a ≡ write b) × P b)
-    → (xs : List A) (bs : List B) → read_all read xs ≡ some bs → (xs ≡ map write bs) × All P bs
-unfolding read_all
-all-written read write P h [] bs e = subst (λ ys. ([] ≡ map write ys) × All P ys) (some-injective [] bs e) (refl, tt)
-all-written read write P h (x ∷ xs) bs e =
-    let n = read_next_lem (read x) (read_all read xs) bs e in
-    let one = h x n.0 n.2 in
-    let others = all-written read write P h xs n.1 n.3 in
-    subst (λ ys. (x ∷ xs ≡ map write ys) × All P ys) n.4 (ap₂ ◌∷◌ one.0 others.0, (one.1, others.1))
-
--- Symbols.
-symbol-read : (s : Symbol) → WfSymbol s → read_symbol (write_symbol s) ≡ some s
-unfolding read_symbol write_symbol
-symbol-read (functor k) h = rw (le-leb k 15 h, read_symbol) refl
-symbol-read (predicate k) h =
-    rw (lt-leb (256 + k) 15 (omega arith), both (leb 256 (256 + k)) (leb (256 + k) 271) (le-leb 256 (256 + k) (omega arith)) (le-leb (256 + k) 271 (omega arith)), read_symbol)
-    (ap {B = Option Symbol} (λ n. some (predicate n)) (omega arith))
-
-symbol-written : (w : ℕ) (s : Symbol) → read_symbol w ≡ some s → (w ≡ write_symbol s) × WfSymbol s
-unfolding read_symbol write_symbol
-symbol-written w s e = go (leb w 15) (leb 256 w && leb w 271) refl refl
-  where
-    go : (a b : Bool) → leb w 15 ≡ a → (leb 256 w && leb w 271) ≡ b → (w ≡ write_symbol s) × WfSymbol s
-    go true b p q =
-        subst (λ x. (w ≡ write_symbol x) × WfSymbol x) (some-injective (functor w) s (sym (rw (p, read_symbol)) ∙ e)) (refl, leb-true w 15 p)
-    go false true p q =
-        let t = (and-eq-true_iff (leb 256 w) (leb w 271)).0 q in
-        let least : 256 ≤ w = leb-true 256 w t.0 in
-        let most : w ≤ 271 = leb-true w 271 t.1 in
-        subst (λ x. (w ≡ write_symbol x) × WfSymbol x) (some-injective (predicate (w - 256)) s (sym (rw (p, q, read_symbol)) ∙ e)) (omega arith, omega arith)
-    go false false p q = absurd (none-ne-some s (sym (rw (p, q, read_symbol)) ∙ e))
+use Rattle.rules.proofs.SymbolLaws.{both, all_read, all-written, symbol-read, symbol-written, symbols-length, words-of-pairs, values-of-pairs, pairs-read, kept-distinct, keeps-distinct}
 
 -- Clauses.
 clause-read : (S : List Symbol) (c : Clause) → WfClause S c → read_clause S (write_clause c) ≡ some c
@@ -189,26 +140,27 @@ all-joined cells (s ∷ ss) cs e r =
 pub record Opened (ws : List ℕ) (d : Deck) : Type 0 where
   pub fits : header_fits ws ≡ true
   pub symbols : read_all read_symbol (symbol_words ws) ≡ some d.symbols
+  pub format : read_format ws ≡ some d.format
   pub starts : starts_fit (length (term_cells ws)) (clause_words ws) ≡ true
   pub short : rows_short (clause_rows (term_cells ws) (clause_words ws)) ≡ true
   pub clauses : read_all (read_clause d.symbols) (clause_rows (term_cells ws) (clause_words ws)) ≡ some d.clauses
 
 pub open-steps : (ws : List ℕ) (d : Deck) → Opened ws d → open_deck ws ≡ accepted d
 unfolding open_deck and_then require obtain
-open-steps ws d o = rw (o.fits, o.symbols, o.starts, o.short, o.clauses) refl
+open-steps ws d o = rw (o.fits, o.symbols, o.format, o.starts, o.short, o.clauses) refl
 
-refused-accepted : {A : Type 0} {n : Refusal} {a : A} → refused n ≡ accepted a → ⊥
+pub refused-accepted : {A : Type 0} {n : Refusal} {a : A} → refused n ≡ accepted a → ⊥
 refused-accepted e = let z : ◌≡◌ {A = ℕ} 0 1 = cc in omega arith
 
-accepted-same : {A : Type 0} {a b : A} → accepted a ≡ accepted b → a ≡ b
+pub accepted-same : {A : Type 0} {a b : A} → accepted a ≡ accepted b → a ≡ b
 accepted-same e = cc
 
-required : {A : Type 0} {a : A} (n : Refusal) (b : Bool) (next : Unit {0} → Checked A) → and_then (require n b) next ≡ accepted a → (b ≡ true) × (next tt ≡ accepted a)
+pub required : {A : Type 0} {a : A} (n : Refusal) (b : Bool) (next : Unit {0} → Checked A) → and_then (require n b) next ≡ accepted a → (b ≡ true) × (next tt ≡ accepted a)
 unfolding and_then require
 required n true next e = (refl, e)
 required n false next e = absurd (refused-accepted e)
 
-obtained : {A B : Type 0} {a : A} (n : Refusal) (o : Option B) (next : B → Checked A) → and_then (obtain n o) next ≡ accepted a → (b : B) × (o ≡ some b) × (next b ≡ accepted a)
+pub obtained : {A B : Type 0} {a : A} (n : Refusal) (o : Option B) (next : B → Checked A) → and_then (obtain n o) next ≡ accepted a → (b : B) × (o ≡ some b) × (next b ≡ accepted a)
 unfolding and_then obtain
 obtained n none next e = absurd (refused-accepted e)
 obtained n (some b) next e = (b, refl, e)
@@ -224,13 +176,15 @@ steps-open ws d e =
     let rows = clause_rows (term_cells ws) (clause_words ws) in
     let h1 = required bad_header (header_fits ws) _ e in
     let h2 = obtained bad_symbol (read_all read_symbol (symbol_words ws)) _ h1.1 in
-    let h3 = required bad_starts (starts_fit (length (term_cells ws)) (clause_words ws)) _ h2.2 in
+    let f = obtained bad_symbol (read_format ws) _ h2.2 in
+    let h3 = required bad_starts (starts_fit (length (term_cells ws)) (clause_words ws)) _ f.2 in
     let h4 = required long_clause (rows_short rows) _ h3.1 in
     let h5 = obtained bad_clause (read_all (read_clause h2.0) rows) _ h4.1 in
-    let q : ◌≡◌ {A = Deck} (record { symbols = h2.0; clauses = h5.0 }) d = accepted-same h5.2 in
+    let q : ◌≡◌ {A = Deck} (record { format = f.0; symbols = h2.0; clauses = h5.0 }) d = accepted-same h5.2 in
     record {
       fits = h1.0;
       symbols = h2.1 ∙ ap (λ (x : Deck). some x.symbols) q;
+      format = f.1 ∙ ap (λ (x : Deck). some x.format) q;
       starts = h3.0;
       short = h4.0;
       clauses = subst (λ (x : Deck). read_all (read_clause x.symbols) rows ≡ some x.clauses) q h5.1;
@@ -239,13 +193,14 @@ steps-open ws d e =
 -- A header that fits, fact by fact.
 pub record Header (ws : List ℕ) : Type 0 where
   pub long : 8 ≤ length ws
-  pub format : header ws 0 ≡ 1
+  pub format_least : 1 ≤ header ws 0
+  pub format_most : header ws 0 ≤ 2
   pub some_symbol : 1 ≤ header ws 1
   pub few_symbols : header ws 1 ≤ 4096
   pub symbol_offset : header ws 2 ≡ 8
-  pub clause_offset : header ws 4 ≡ 8 + header ws 1
-  pub term_offset : header ws 6 ≡ 8 + header ws 1 + header ws 3
-  pub end : header ws 7 ≡ 8 + header ws 1 + header ws 3 + header ws 5
+  pub clause_offset : header ws 4 ≡ 8 + symbol_room (header ws 0) (header ws 1)
+  pub term_offset : header ws 6 ≡ 8 + symbol_room (header ws 0) (header ws 1) + header ws 3
+  pub end : header ws 7 ≡ 8 + symbol_room (header ws 0) (header ws 1) + header ws 3 + header ws 5
   pub whole : header ws 7 ≡ length ws
   pub total : header ws 7 ≤ 16384
 
@@ -257,7 +212,7 @@ facts-fit ws h =
     (both _ _
     (both _ _
     (both _ _
-    (both _ _ (le-leb 8 (length ws) h.long) (eq-eqb (header ws 0) 1 h.format))
+    (both _ _ (le-leb 8 (length ws) h.long) (both _ _ (le-leb 1 (header ws 0) h.format_least) (le-leb (header ws 0) 2 h.format_most)))
     (both _ _ (le-leb 1 (header ws 1) h.some_symbol) (le-leb (header ws 1) 4096 h.few_symbols)))
     (eq-eqb (header ws 2) 8 h.symbol_offset))
     (eq-eqb (header ws 4) _ h.clause_offset))
@@ -273,12 +228,14 @@ fit-facts ws e =
     let t3 = (and-eq-true_iff _ _).0 t4.0 in
     let t2 = (and-eq-true_iff _ _).0 t3.0 in
     let t1 = (and-eq-true_iff _ _).0 t2.0 in
+    let formats = (and-eq-true_iff _ _).0 t1.1 in
     let counts = (and-eq-true_iff _ _).0 t2.1 in
     let ends = (and-eq-true_iff _ _).0 t6.1 in
     let sums = (and-eq-true_iff _ _).0 ends.0 in
     record {
       long = leb-true 8 (length ws) t1.0;
-      format = eqb-true (header ws 0) 1 t1.1;
+      format_least = leb-true 1 (header ws 0) formats.0;
+      format_most = leb-true (header ws 0) 2 formats.1;
       some_symbol = leb-true 1 (header ws 1) counts.0;
       few_symbols = leb-true (header ws 1) 4096 counts.1;
       symbol_offset = eqb-true (header ws 2) 8 t3.1;
@@ -302,35 +259,70 @@ module _ (hdr xs ys zs : List ℕ) (n s c : ℕ) (h : length hdr ≡ n) (hx : le
       ap (drop (n + s + c)) (sym (append_assoc hdr xs (ys ++ zs)) ∙ sym (append_assoc (hdr ++ xs) ys zs))
       ∙ drop_at ((hdr ++ xs) ++ ys) zs (n + s + c) (length-append (hdr ++ xs) ys ∙ ap₂ ◌+◌ (length-append hdr xs ∙ ap₂ ◌+◌ h hx) hy)
 
+format-least : (F : Format) → 1 ≤ format_number F
+format-least format1 = omega arith
+format-least (format2 vs) = omega arith
+
+format-most : (F : Format) → format_number F ≤ 2
+format-most format1 = omega arith
+format-most (format2 vs) = omega arith
+
+pub as-they-stand : (d : Deck) → symbol_part (write_deck d) ≡ write_symbols d.format d.symbols
+unfolding symbol_part write_deck header_words
+as-they-stand d =
+    take_at (write_symbols d.format d.symbols) (clause_starts 0 d.clauses ++ clauses_cells d.clauses) (symbol_room (format_number d.format) (length d.symbols))
+    (symbols-length d.format d.symbols)
+
+-- One word a symbol, and the format.
+abbrev deck_in : Format → List Symbol → List Clause → Deck
+deck_in F ss cs = record { format = F; symbols = ss; clauses = cs }
+
+symbols-of : (F : Format) (ss : List Symbol) (cs : List Clause) → All WfSymbol ss → WfFormat ss F → symbol_words (write_deck (deck_in F ss cs)) ≡ map write_symbol ss
+unfolding symbol_words write_deck header_words write_symbols
+symbols-of format1 ss cs w h = as-they-stand (deck_in format1 ss cs)
+symbols-of (format2 vs) ss cs w h = ap kind_words (as-they-stand (deck_in (format2 vs) ss cs)) ∙ words-of-pairs ss vs w h.0
+
+format-of : (F : Format) (ss : List Symbol) (cs : List Clause) → All WfSymbol ss → WfFormat ss F → read_format (write_deck (deck_in F ss cs)) ≡ some F
+unfolding read_format write_deck header_words write_symbols
+format-of format1 ss cs w h = refl
+format-of (format2 vs) ss cs w h =
+    ap (λ l. keep_distinct (read_values l)) (as-they-stand (deck_in (format2 vs) ss cs)) ∙ ap keep_distinct (values-of-pairs ss vs w h.0) ∙ keeps-distinct vs h.1
+
 module _ (d : Deck) where
-  pub symbols-part : symbol_words (write_deck d) ≡ map write_symbol d.symbols
-  unfolding symbol_words write_deck header_words
-  symbols-part = take_at (map write_symbol d.symbols) (clause_starts 0 d.clauses ++ clauses_cells d.clauses) (length d.symbols) (length-map d.symbols write_symbol)
+  abbrev written_header : List ℕ
+  written_header = header_words (format_number d.format) (length d.symbols) (length d.clauses) (length (clauses_cells d.clauses))
+
+  abbrev room : ℕ
+  room = symbol_room (format_number d.format) (length d.symbols)
 
   pub clauses-part : clause_words (write_deck d) ≡ clause_starts 0 d.clauses
   unfolding clause_words write_deck header_words
   clauses-part =
-      middle (header_words (length d.symbols) (length d.clauses) (length (clauses_cells d.clauses)))
-      (map write_symbol d.symbols) (clause_starts 0 d.clauses) (clauses_cells d.clauses) 8 (length d.symbols)
-      (length d.clauses) refl (length-map d.symbols write_symbol) (starts-length 0 d.clauses)
+      middle written_header (write_symbols d.format d.symbols) (clause_starts 0 d.clauses) (clauses_cells d.clauses) 8 room
+      (length d.clauses) refl (symbols-length d.format d.symbols) (starts-length 0 d.clauses)
 
   pub cells-part : term_cells (write_deck d) ≡ clauses_cells d.clauses
   unfolding term_cells write_deck header_words
   cells-part =
-      end (header_words (length d.symbols) (length d.clauses) (length (clauses_cells d.clauses)))
-      (map write_symbol d.symbols) (clause_starts 0 d.clauses) (clauses_cells d.clauses) 8 (length d.symbols)
-      (length d.clauses) refl (length-map d.symbols write_symbol) (starts-length 0 d.clauses)
+      end written_header (write_symbols d.format d.symbols) (clause_starts 0 d.clauses) (clauses_cells d.clauses) 8 room
+      (length d.clauses) refl (symbols-length d.format d.symbols) (starts-length 0 d.clauses)
 
-  pub deck-length : length (write_deck d) ≡ 8 + length d.symbols + length d.clauses + length (clauses_cells d.clauses)
+  pub deck-length : length (write_deck d) ≡ 8 + room + length d.clauses + length (clauses_cells d.clauses)
   unfolding write_deck header_words
   deck-length =
       omega (
         arith,
-        length-append (map write_symbol d.symbols) (clause_starts 0 d.clauses ++ clauses_cells d.clauses),
+        length-append (write_symbols d.format d.symbols) (clause_starts 0 d.clauses ++ clauses_cells d.clauses),
         length-append (clause_starts 0 d.clauses) (clauses_cells d.clauses),
-        length-map d.symbols write_symbol,
+        symbols-length d.format d.symbols,
         starts-length 0 d.clauses,
       )
+
+  pub symbols-part : WfDeck d → symbol_words (write_deck d) ≡ map write_symbol d.symbols
+  symbols-part w = symbols-of d.format d.symbols d.clauses w.symbols w.format
+
+  pub format-part : WfDeck d → read_format (write_deck d) ≡ some d.format
+  format-part w = format-of d.format d.symbols d.clauses w.symbols w.format
 
   rows-part : clause_rows (term_cells (write_deck d)) (clause_words (write_deck d)) ≡ map write_clause d.clauses
   rows-part = ap₂ clause_rows cells-part clauses-part ∙ rows_cut [] 0 d.clauses refl
@@ -340,7 +332,8 @@ module _ (d : Deck) where
   header-fits w =
       record {
         long = omega (arith, deck-length);
-        format = refl;
+        format_least = format-least d.format;
+        format_most = format-most d.format;
         some_symbol = w.some_symbol;
         few_symbols = w.few_symbols;
         symbol_offset = refl;
@@ -356,7 +349,8 @@ module _ (d : Deck) where
       open-steps (write_deck d) d
       (record {
         fits = facts-fit (write_deck d) (header-fits w);
-        symbols = ap (read_all read_symbol) symbols-part ∙ all_read read_symbol write_symbol WfSymbol symbol-read d.symbols w.symbols;
+        symbols = ap (read_all read_symbol) (symbols-part w) ∙ all_read read_symbol write_symbol WfSymbol symbol-read d.symbols w.symbols;
+        format = format-part w;
         starts = ap₂ starts_fit (ap length cells-part) clauses-part ∙ starts_fit_lem d.clauses;
         short = ap rows_short rows-part ∙ rows_short_lem d.symbols d.clauses w.clauses;
         clauses =
@@ -369,30 +363,33 @@ word-then : (ws : List ℕ) (i x : ℕ) (xs : List ℕ) → i < length ws → he
 word-then ws i x xs h e q = drop-cons ws i 0 h ∙ ap₂ ◌∷◌ e q
 
 module _ (ws : List ℕ) (h : Header ws) where
-  header-joined : ws ≡ header_words (header ws 1) (header ws 3) (header ws 5) ++ drop 8 ws
+  abbrev found_room : ℕ
+  found_room = symbol_room (header ws 0) (header ws 1)
+
+  header-joined : ws ≡ header_words (header ws 0) (header ws 1) (header ws 3) (header ws 5) ++ drop 8 ws
   unfolding header_words
   header-joined =
-      word-then ws 0 _ _ (omega arith) h.format
+      word-then ws 0 _ _ (omega arith) refl
       (word-then ws 1 _ _ (omega arith) refl
       (word-then ws 2 _ _ (omega arith) h.symbol_offset
       (word-then ws 3 _ _ (omega arith) refl
       (word-then ws 4 _ _ (omega arith) h.clause_offset
       (word-then ws 5 _ _ (omega arith) refl (word-then ws 6 _ _ (omega arith) h.term_offset (word-then ws 7 _ _ (omega arith) h.end refl)))))))
 
-  parts-joined : drop 8 ws ≡ symbol_words ws ++ (clause_words ws ++ term_cells ws)
-  unfolding symbol_words clause_words term_cells
+  parts-joined : drop 8 ws ≡ symbol_part ws ++ (clause_words ws ++ term_cells ws)
+  unfolding symbol_part clause_words term_cells
   parts-joined =
       let cells : header ws 4 + header ws 3 ≡ header ws 6 = omega arith in
-      sym (take-append-drop (header ws 1) (drop 8 ws))
-      ∙ ap (take (header ws 1) (drop 8 ws) ++◌)
-      (drop-drop (header ws 1) 8 ws
+      sym (take-append-drop found_room (drop 8 ws))
+      ∙ ap (take found_room (drop 8 ws) ++◌)
+      (drop-drop found_room 8 ws
       ∙ ap (λ k. drop k ws) (sym h.clause_offset)
       ∙ sym (take-append-drop (header ws 3) (drop (header ws 4) ws))
       ∙ ap (take (header ws 3) (drop (header ws 4) ws) ++◌) (drop-drop (header ws 3) (header ws 4) ws ∙ ap (λ k. drop k ws) cells))
 
-  symbols-many : length (symbol_words ws) ≡ header ws 1
-  unfolding symbol_words
-  symbols-many = length-take-le (header ws 1) (drop 8 ws) (omega (arith, length-drop 8 ws))
+  symbols-many : length (symbol_part ws) ≡ found_room
+  unfolding symbol_part
+  symbols-many = length-take-le found_room (drop 8 ws) (omega (arith, length-drop 8 ws))
 
   starts-many : length (clause_words ws) ≡ header ws 3
   unfolding clause_words
@@ -402,26 +399,60 @@ module _ (ws : List ℕ) (h : Header ws) where
   unfolding term_cells
   cells-many = omega (arith, length-drop (header ws 6) ws)
 
+-- The symbols as they stand, from the words of them all and the format.
+record SymbolsRead (ws : List ℕ) (ss : List Symbol) (F : Format) : Type 0 where
+  number : header ws 0 ≡ format_number F
+  written : symbol_part ws ≡ write_symbols F ss
+  symbols : All WfSymbol ss
+  format : WfFormat ss F
+
+same-room : (f n m : ℕ) → symbol_room f n ≡ symbol_room f m → n ≡ m
+unfolding symbol_room
+same-room f n m e = go (eqb f 2) refl
+  where
+    go : (b : Bool) → eqb f 2 ≡ b → n ≡ m
+    go true p = let twice : 2 * n ≡ 2 * m = rw (p, symbol_room) at e in omega arith
+    go false p = rw (p, symbol_room) at e
+
+symbols-read : (ws : List ℕ) (d : Deck) → Header ws → Opened ws d → SymbolsRead ws d.symbols d.format
+unfolding symbol_words read_format write_symbols
+symbols-read ws d h o = go (eqb (header ws 0) 2) refl
+  where
+    go : (b : Bool) → eqb (header ws 0) 2 ≡ b → SymbolsRead ws d.symbols d.format
+    go true p =
+        let k = kept-distinct (read_values (symbol_part ws)) d.format (rw (p, read_format) at o.format) in
+        let r = pairs-read (symbol_part ws) d.symbols k.0 (rw (p, symbol_words) at o.symbols) k.1 in
+        subst (SymbolsRead ws d.symbols) k.3 (record { number = eqb-true (header ws 0) 2 p; written = r.0; symbols = r.1; format = (r.2, k.2) })
+    go false p =
+        let e : format1 ≡ d.format = some-injective format1 d.format (rw (p, read_format) at o.format) in
+        let r = all-written read_symbol write_symbol WfSymbol symbol-written (symbol_part ws) d.symbols (rw (p, symbol_words) at o.symbols) in
+        subst (SymbolsRead ws d.symbols) e
+        (record { number = omega (arith, h.format_least, h.format_most, eqb-false (header ws 0) 2 p); written = r.0; symbols = r.1; format = tt })
+
 pub opened-written : (ws : List ℕ) (d : Deck) → open_deck ws ≡ accepted d → (ws ≡ write_deck d) × WfDeck d
 unfolding write_deck
 opened-written ws d e =
     let o = steps-open ws d e in
     let h = fit-facts ws o.fits in
-    let sy = all-written read_symbol write_symbol WfSymbol symbol-written (symbol_words ws) d.symbols o.symbols in
+    let sy = symbols-read ws d h o in
     let rows = clause_rows (term_cells ws) (clause_words ws) in
     let cl = all-written (read_clause d.symbols) write_clause (RightClause d.symbols) (clause-written d.symbols) rows d.clauses o.clauses in
     let j = all-joined (term_cells ws) (clause_words ws) d.clauses o.starts cl.0 in
-    let S : header ws 1 ≡ length d.symbols = sym (symbols-many ws h) ∙ ap length sy.0 ∙ length-map d.symbols write_symbol in
+    let R : symbol_room (header ws 0) (header ws 1) ≡ symbol_room (header ws 0) (length d.symbols) =
+    sym (symbols-many ws h) ∙ ap length sy.written ∙ symbols-length d.format d.symbols ∙ ap (λ f. symbol_room f (length d.symbols)) (sym sy.number) in
+    let S : header ws 1 ≡ length d.symbols = same-room (header ws 0) (header ws 1) (length d.symbols) R in
     let C : header ws 3 ≡ length d.clauses = sym (starts-many ws h) ∙ ap length j.0 ∙ starts-length 0 d.clauses in
-    let T : header ws 5 ≡ length (clauses_cells d.clauses) = sym (cells-many ws h) ∙ ap length j.1 in (
+    let T : header ws 5 ≡ length (clauses_cells d.clauses) = sym (cells-many ws h) ∙ ap length j.1 in
+    let room : symbol_room (header ws 0) (header ws 1) ≡ symbol_room (format_number d.format) (length d.symbols) = ap₂ symbol_room sy.number S in (
       header-joined ws h
-          ∙ ap₂ ◌++◌ (ap₂ (λ s c. header_words s c (header ws 5)) S C ∙ ap (header_words (length d.symbols) (length d.clauses)) T)
-          (parts-joined ws h ∙ ap₂ ◌++◌ sy.0 (ap₂ ◌++◌ j.0 j.1)),
+          ∙ ap₂ ◌++◌ (λ i. header_words (sy.number i) (S i) (C i) (T i))
+          (parts-joined ws h ∙ ap₂ ◌++◌ sy.written (ap₂ ◌++◌ j.0 j.1)),
       record {
         some_symbol = omega (arith, h.some_symbol);
         few_symbols = omega (arith, h.few_symbols);
         total = omega (arith, h.end, h.total);
-        symbols = sy.1;
+        symbols = sy.symbols;
+        format = sy.format;
         clauses = short-rows d.symbols d.clauses (ap rows_short (sym cl.0) ∙ o.short) cl.1;
       },
     )

@@ -1,19 +1,19 @@
--- What the words of a deck that opened hold, for code that reads them by their places: the header's numbers, each symbol word,
--- and each clause, whose cells run from its start to the next start or to the end.
+-- What the words of a deck that opened hold, for code that reads them by their places: the header's numbers, and each clause,
+-- whose cells run from its start to the next start or to the end.
 use Prim.Native.Nat.{ℕ, zero, suc, ◌+◌, ◌-◌, ◌≤◌, ◌<◌}
 use mathlib.Core.Path.{◌≡◌, refl, ap, sym, ◌∙◌, subst}
 use mathlib.Core.Bool.{Bool, true, false}
-use mathlib.Core.Option.{none, some}
-use mathlib.Core.List.{List, [], ◌∷◌, ◌++◌, map, append_assoc}
+use mathlib.Core.List.{List, [], ◌∷◌, ◌++◌, append_assoc}
 use native.Mathlib.Omega.{arith}
-use lib.ListN.{length, get_or, get_elem?, take, drop, length-append, length-map, get_or-append}
+use lib.ListN.{length, get_or, take, drop, length-append, get_or-append}
 use lib.Seq.{take_at, drop_at, take_all, drop-drop, get_or-append-add}
 use lib.Dec.{ltb}
 use borrow.Author.Tests.{ltb-true, ltb-false}
-use Rattle.rules.specs.Syntax.{Symbol, functor, predicate, Clause, Deck}
+use Rattle.rules.specs.Syntax.{Clause, Deck}
 use Rattle.rules.specs.Refusals.{accepted}
-use Rattle.rules.specs.Decks.{write_symbol, write_clause, clauses_cells, clause_starts, header_words, write_deck, header, term_cells, open_deck}
-use Rattle.rules.specs.WellFormed.{All, WfClause, WfSymbol, WfDeck}
+use Rattle.rules.specs.Decks.{write_symbols, format_number, symbol_room, write_clause, clauses_cells, clause_starts, header_words, write_deck, header, term_cells, open_deck}
+use Rattle.rules.specs.WellFormed.{All, WfClause, WfDeck}
+use Rattle.rules.proofs.SymbolLaws.{symbols-length}
 use Rattle.rules.proofs.DeckLaws.{starts-length, cells-part, deck-length, opened-written}
 
 -- The place of clause i's first cell among the deck's words, and the place after its last one.
@@ -74,38 +74,15 @@ start-next cs i c e =
       length-append (clauses_cells (take (i + 1) cs)) rest,
     )
 
--- What a symbol word says.
-pub data SymbolAt (symbols : List Symbol) (f w : ℕ) : Type 0 where
-  a_functor : w ≤ 15 → get_elem? symbols f ≡ some (functor w) → SymbolAt symbols f w
-  a_predicate : (k : ℕ) → w ≡ 256 + k → k ≤ 15 → get_elem? symbols f ≡ some (predicate k) → SymbolAt symbols f w
-
-symbol-later : {symbols : List Symbol} {f w : ℕ} (s : Symbol) → SymbolAt symbols f w → SymbolAt (s ∷ symbols) (suc f) w
-symbol-later s (a_functor l e) = a_functor l e
-symbol-later s (a_predicate k l m e) = a_predicate k l m e
-
-symbol-said : (symbols : List Symbol) (f : ℕ) → All WfSymbol symbols → f < length symbols → SymbolAt symbols f (get_or (map write_symbol symbols) f 0)
-unfolding write_symbol
-symbol-said [] f w h = absurd (omega arith)
-symbol-said (functor k ∷ ss) zero w h = a_functor w.0 refl
-symbol-said (predicate k ∷ ss) zero w h = a_predicate k refl w.0 refl
-symbol-said (s ∷ ss) (suc f) w h = symbol-later s (symbol-said ss f w.1 (omega arith))
-
-no_symbol_lem {ℓ} : {A : Type ℓ} (xs : List A) (f : ℕ) → length xs ≤ f → get_elem? xs f ≡ none
-no_symbol_lem [] f h = refl
-no_symbol_lem (x ∷ xs) zero h = absurd (omega arith)
-no_symbol_lem (x ∷ xs) (suc f) h = no_symbol_lem xs f (omega arith)
-
 -- A deck's words, with the header's numbers in terms of the deck.
 pub record DeckWords (ws : List ℕ) (d : Deck) : Type 0 where
   pub symbol_count : header ws 1 ≡ length d.symbols
   pub clause_count : header ws 3 ≡ length d.clauses
-  pub clause_offset : header ws 4 ≡ 8 + length d.symbols
+  pub clause_offset : header ws 4 ≡ 8 + symbol_room (format_number d.format) (length d.symbols)
   pub cell_count : header ws 5 ≡ length (clauses_cells d.clauses)
-  pub cell_offset : header ws 6 ≡ 8 + length d.symbols + length d.clauses
+  pub cell_offset : header ws 6 ≡ 8 + symbol_room (format_number d.format) (length d.symbols) + length d.clauses
   pub whole : length ws ≡ header ws 6 + header ws 5
   pub few : length ws ≤ 16384
-  pub symbol : (f : ℕ) → f < header ws 1 → SymbolAt d.symbols f (get_or ws (8 + f) 0)
-  pub no_symbol : (f : ℕ) → header ws 1 ≤ f → get_elem? d.symbols f ≡ none
 
 -- Clause i of the deck, and its cells.
 pub record ClauseAt (ws : List ℕ) (d : Deck) (i : ℕ) : Type 0 where
@@ -120,22 +97,16 @@ get_d_past : (xs ys : List ℕ) (n i : ℕ) → length xs ≡ n → get_or (xs +
 get_d_past xs ys n i e = ap (λ k. get_or (xs ++ ys) (k + i) 0) (sym e) ∙ get_or-append-add xs ys i 0
 
 module _ (d : Deck) where
-  symbol-word : (f : ℕ) → f < length d.symbols → get_or (write_deck d) (8 + f) 0 ≡ get_or (map write_symbol d.symbols) f 0
-  unfolding write_deck header_words
-  symbol-word f h =
-      let after = clause_starts 0 d.clauses ++ clauses_cells d.clauses in
-      get_d_past (header_words (length d.symbols) (length d.clauses) (length (clauses_cells d.clauses))) (map write_symbol d.symbols ++ after) 8 f refl
-      ∙ get_or-append (map write_symbol d.symbols) after 0 f (omega (arith, length-map d.symbols write_symbol))
-
   start_word : (i : ℕ) → i < length d.clauses → clause_start (write_deck d) i ≡ start_of d.clauses i
   unfolding write_deck header_words
   start_word i h =
-      let front = header_words (length d.symbols) (length d.clauses) (length (clauses_cells d.clauses)) in
-      let names = map write_symbol d.symbols in
+      let room = symbol_room (format_number d.format) (length d.symbols) in
+      let front = header_words (format_number d.format) (length d.symbols) (length d.clauses) (length (clauses_cells d.clauses)) in
+      let names = write_symbols d.format d.symbols in
       let starts = clause_starts 0 d.clauses in
       let cells = clauses_cells d.clauses in
-      ap (λ ws. get_or ws (8 + length d.symbols + i) 0) (sym (append_assoc front names (starts ++ cells)))
-      ∙ get_d_past (front ++ names) (starts ++ cells) (8 + length d.symbols) i (omega (arith, length-append front names, length-map d.symbols write_symbol))
+      ap (λ ws. get_or ws (8 + room + i) 0) (sym (append_assoc front names (starts ++ cells)))
+      ∙ get_d_past (front ++ names) (starts ++ cells) (8 + room) i (omega (arith, length-append front names, symbols-length d.format d.symbols))
       ∙ get_or-append starts cells 0 i (omega (arith, starts-length 0 d.clauses))
       ∙ (start-of 0 d.clauses i h ∙ omega arith)
 
@@ -150,8 +121,6 @@ module _ (d : Deck) where
         cell_offset = refl;
         whole = deck-length d;
         few = omega (arith, deck-length d, w.total);
-        symbol = λ f h. subst (SymbolAt d.symbols f) (sym (symbol-word f h)) (symbol-said d.symbols f w.symbols h);
-        no_symbol = λ f h. no_symbol_lem d.symbols f h;
       }
 
   from-cells : (i : ℕ) → drop (header (write_deck d) 6 + start_of d.clauses i) (write_deck d) ≡ clauses_cells (drop i d.clauses)

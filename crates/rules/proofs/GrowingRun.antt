@@ -8,7 +8,7 @@ use native.Mathlib.Decide.{ℕ_discrete}
 use native.Mathlib.Omega.{arith}
 use borrow.Author.Tests.{le-leb, le-ltb, lt-ltb}
 use Rattle.rules.specs.Terms.{Term, var, app, Terms, nil, cons, vars_terms, occs, tops}
-use Rattle.rules.specs.Syntax.{functor, predicate, pos, Clause, Deck, Goal}
+use Rattle.rules.specs.Syntax.{functor, predicate, pos, Clause, format1, Deck, Goal}
 use Rattle.rules.specs.Cells.{write_terms, numbered}
 use Rattle.rules.specs.Refusals.{accepted}
 use Rattle.rules.specs.All.{rules}
@@ -131,7 +131,7 @@ climbs (suc k) n left steps e h =
     ∙ ap₂ (λ x y. ended (stopped finished) (last_level 1020) (account x y)) (omega (arith, cost n)) (omega arith)
 
 abbrev deck : Deck
-deck = record { symbols = functor 0 ∷ functor 1 ∷ predicate 1 ∷ []; clauses = clauses }
+deck = record { format = format1; symbols = functor 0 ∷ functor 1 ∷ predicate 1 ∷ []; clauses = clauses }
 
 growing : evaluate deck 8192 16384 (goal_at 0 ∷ []) [] 100000
     ≡ record { stop = finished; steps = 1021; cost = 2042; answers = []; pending = []; parked = marked oversized (goal_at 1020) ∷ [] }

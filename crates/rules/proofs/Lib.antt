@@ -12,7 +12,9 @@ pub mod NumberingLaws
 pub mod CellLaws
 pub mod ForwardLaws
 pub mod GoalLaws
+pub mod SymbolLaws
 pub mod DeckLaws
+pub mod FormatOne
 pub mod DeckWords
 pub mod FirstGoal
 -- Drill terms.
@@ -42,6 +44,10 @@ pub mod Demand3
 pub mod StoredLaws
 pub mod CarryTable
 pub mod Carried
+-- Columns.
+pub mod MeanLaws
+pub mod ColumnLaws
+pub mod ColumnRuns
 -- What a run passes on every level.
 pub mod PassLaws
 -- Loose variables.
@@ -60,6 +66,8 @@ pub mod ClosedSites
 pub mod MemberRuns
 pub mod ClosedRuns
 pub mod RightsTable
+-- Both formats of a deck in runs.
+pub mod FormatRuns
 -- The tests on cells, and on the decks of the tables.
 pub mod FlatLaws
 pub mod DeckCases
@@ -78,3 +86,4 @@ pub mod StoreRuns
 pub mod RefusalRuns
 pub mod ListingRuns
 pub mod DrillRuns
+pub mod FormatTable

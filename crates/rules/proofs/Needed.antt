@@ -8,7 +8,7 @@ use mathlib.Core.Bool.{Bool, true, false, Bool-set}
 use mathlib.Core.List.{List, [], ◌∷◌, ◌++◌}
 use native.Mathlib.Omega.{arith}
 use Rattle.rules.specs.Terms.{var, nil, cons}
-use Rattle.rules.specs.Syntax.{predicate, pos, Deck, Goal}
+use Rattle.rules.specs.Syntax.{predicate, pos, format1, Deck, Goal}
 use Rattle.rules.specs.Goals.{Marked, unmarked}
 use Rattle.rules.specs.Evaluation.{evaluate}
 use Rattle.rules.specs.All.{rules}
@@ -23,6 +23,7 @@ root (node f us) = f
 -- p if r(x); r(x) if r(x); q if q. Their numbers are 0, 1, 2.
 abbrev loops : Deck
 loops = record {
+  format = format1;
   symbols = predicate 0 ∷ predicate 1 ∷ predicate 0 ∷ [];
   clauses =
       record { predicate = 0; arguments = nil; body = pos 1 (cons (var 0) nil) ∷ [] }

@@ -7,7 +7,7 @@ use lib.ListN.{length, replicate}
 use Rattle.rules.specs.Refusals.{Checked, refused, bad_bars, barred_reached, checked_number}
 use Rattle.rules.specs.Evaluation.{finished}
 use Rattle.rules.specs.Terms.{nil}
-use Rattle.rules.specs.Syntax.{predicate, neg}
+use Rattle.rules.specs.Syntax.{predicate, neg, format1}
 use Rattle.rules.specs.Goals.{undecided, marked}
 use Rattle.rules.specs.Run.{run_from, run, carry, carry_on}
 use Rattle.rules.specs.CarryProgram.{bars_from, open_run, carry_run, kept_listing}
@@ -87,7 +87,7 @@ carried-rights = refl
 
 -- A parked goal's literals are starting points too, also where no clause is.
 pub parked-start :
-    run_from (record { symbols = predicate 0 ∷ []; clauses = [] }) (1 ∷ []) [] (marked undecided (record { answers = nil; literals = neg 0 nil ∷ [] }) ∷ []) 9 9 1024
+    run_from (record { format = format1; symbols = predicate 0 ∷ []; clauses = [] }) (1 ∷ []) [] (marked undecided (record { answers = nil; literals = neg 0 nil ∷ [] }) ∷ []) 9 9 1024
     ≡ refused barred_reached
 unfolding rules
 parked-start = refl

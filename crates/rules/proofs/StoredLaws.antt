@@ -281,8 +281,8 @@ module _ (deck : Deck) (wf : WfDeck deck) (terms : ℕ) (gs : List Goal) (ms : L
   abbrev after : Outcome
   after = evaluate deck answer_room store_size gs ms total
 
-  pub left-fit : All (Fits deck.symbols terms) after.pending × All (ParkedFits deck.symbols terms) after.parked
-  left-fit =
+  after-fit : All (Fits deck.symbols terms) after.pending × All (ParkedFits deck.symbols terms) after.parked × All (Fits deck.symbols terms) after.answers
+  after-fit =
       let S : List Symbol = deck.symbols in
       let kept = evaluate-keeps deck wf answer_room store_size gs ms total
       (all-weaken (Fits S terms) (WfGoal S) (λ g h. h.wf) gs p) (all-weaken (ParkedFits S terms) (WfMarked S) (λ m h. h.1.wf) ms q) in
@@ -293,16 +293,24 @@ module _ (deck : Deck) (wf : WfDeck deck) (terms : ℕ) (gs : List Goal) (ms : L
         all-weaken (λ m. Parks m.mark × (WfMarked S m × Of terms m.goal)) (ParkedFits S terms) (λ m h. (h.0, record { wf = h.1.0; many = h.1.1 })) after.parked
             (all_both (λ m. Parks m.mark) (λ m. WfMarked S m × Of terms m.goal) after.parked marks
             (all_both (WfMarked S) (λ m. Of terms m.goal) after.parked kept.parked counts.1)),
+        all-weaken (λ g. WfGoal S g × Of terms g) (Fits S terms) (λ g h. record { wf = h.0; many = h.1 }) after.answers
+            (all_both (WfGoal S) (Of terms) after.answers kept.answers counts.2),
       )
     where
       parks-left : (m : Marked) → Memᴰ m ms ⊎ Parks m.mark → Parks m.mark
       parks-left m (inl i) = (in_all (ParkedFits deck.symbols terms) ms q m i).0
       parks-left m (inr h) = h
 
-      counts : All (Of terms) after.pending × All (λ m. Of terms m.goal) after.parked
-      counts = evaluated deck answer_room store_size gs ms total (λ o. All (Of terms) o.pending × All (λ m. Of terms m.goal) o.parked) (λ s l left r.
+      counts : All (Of terms) after.pending × All (λ m. Of terms m.goal) after.parked × All (Of terms) after.answers
+      counts = evaluated deck answer_room store_size gs ms total (λ o. All (Of terms) o.pending × All (λ m. Of terms m.goal) o.parked × All (Of terms) o.answers) (λ s l left r.
           let h = runs-keep (LevelOf terms) (of-keeps terms zeroth) r (record {
             pending = all-weaken (Fits deck.symbols terms) (Of terms) (λ g h. h.many) gs p;
             parked = all-weaken (ParkedFits deck.symbols terms) (λ m. Of terms m.goal) (λ m h. h.1.many) ms q;
             answers = tt;
-          }) in (h.pending, h.parked))
+          }) in (h.pending, h.parked, h.answers))
+
+  pub left-fit : All (Fits deck.symbols terms) after.pending × All (ParkedFits deck.symbols terms) after.parked
+  left-fit = (after-fit.0, after-fit.1)
+
+  pub listed-fit : All (Fits deck.symbols terms) after.answers
+  listed-fit = after-fit.2

@@ -15,6 +15,7 @@ pub mod Ranks
 pub mod Stored
 pub mod Rights
 pub mod Run
+pub mod Column
 pub mod Meaning
 pub mod ThreeValues
 pub mod Demand

@@ -7,9 +7,10 @@ use Rattle.std.proofs.Math.Option.{Option, none, some}
 -- A text: outside the grammar, or a name undeclared, declared twice or used with another arity; a result that does not fit.
 -- Open goals that are not as they must be (U4). A loose variable: in a clause, in the query (U5).
 -- A member's list of the wrong length or with other words; a barred predicate that is reached (U9).
+-- A column: an answer list that is not as described, an entry that is not a number (U10).
 -- Drill terms: over 8 cells, or a given term that is not of the list (U12).
 pub data Refusal : Type 0 where
-  bad_header bad_symbol bad_starts long_clause bad_clause long_query bad_query bad_store bad_scratch bad_text no_room bad_goals loose_clause loose_query bad_bars barred_reached bad_drill : Refusal
+  bad_header bad_symbol bad_starts long_clause bad_clause long_query bad_query bad_store bad_scratch bad_text no_room bad_goals loose_clause loose_query bad_bars barred_reached bad_answers not_number bad_drill : Refusal
 
 abbrev pub refusal_number : Refusal → ℕ
 refusal_number bad_header = 1
@@ -28,6 +29,8 @@ refusal_number loose_clause = 13
 refusal_number loose_query = 14
 refusal_number bad_bars = 15
 refusal_number barred_reached = 16
+refusal_number bad_answers = 17
+refusal_number not_number = 18
 refusal_number bad_drill = 19
 
 -- What checks come to: the first refusal, or what they let through.

@@ -1,5 +1,6 @@
 -- Literals, clauses, decks and goals as trees (document 01, "The deck" and "Goals").
 use Rattle.std.specs.Prelude.{ℕ, max, List, [], ◌∷◌}
+use Rattle.std.proofs.Math.Option.{Option}
 use Rattle.rules.specs.Terms.{Terms, tops, vars_terms}
 
 -- A symbol is a functor or a predicate, with its arity.
@@ -16,8 +17,15 @@ pub record Clause : Type 0 where
   pub arguments : Terms
   pub body : List Literal
 
--- A deck (Clark's data base) is its symbols, numbered from 0, and its clauses.
+-- The two ways to write a deck as words (document 02, U10). In format 2 a symbol may have a value: it is a number, in all else a functor of arity 0.
+-- The value is kept as its word, in two's complement.
+pub data Format : Type 0 where
+  format1 : Format
+  format2 : List (Option ℕ) → Format
+
+-- A deck (Clark's data base) is its symbols, numbered from 0, and its clauses, and the format of its words.
 pub record Deck : Type 0 where
+  pub format : Format
   pub symbols : List Symbol
   pub clauses : List Clause
 

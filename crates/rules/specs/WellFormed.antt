@@ -1,9 +1,10 @@
 -- Well-formed terms, literals, clauses, decks and goals: those that have a writing which is read as them again.
 use Rattle.std.specs.Prelude.{ℕ, ◌+◌, ◌≤◌, ◌≡◌, true, List, [], ◌∷◌, length}
+use Rattle.std.proofs.Math.Option.{Option, none, some}
 use Rattle.rules.specs.Terms.{Term, var, app, Terms, nil, cons, count}
-use Rattle.rules.specs.Syntax.{Symbol, functor, predicate, Literal, pos, neg, Clause, Deck, Goal, vars_literals, vars_goal}
+use Rattle.rules.specs.Syntax.{Symbol, functor, predicate, Literal, pos, neg, Clause, Format, format1, format2, Deck, Goal, vars_literals, vars_goal}
 use Rattle.rules.specs.Cells.{write_literals, function, positive, negative, read_cell, numbered}
-use Rattle.rules.specs.Decks.{write_clause, clauses_cells}
+use Rattle.rules.specs.Decks.{format_number, symbol_room, numbers, distinct, write_clause, clauses_cells}
 use Rattle.rules.specs.Goals.{Marked, goal_words}
 
 -- Every element has the property.
@@ -45,11 +46,24 @@ abbrev pub WfSymbol : Symbol → Type 0
 WfSymbol (functor k) = k ≤ 15
 WfSymbol (predicate k) = k ≤ 15
 
+-- In format 2 there is a value, or none, for each symbol; only a functor of arity 0 has one, and no two are equal.
+abbrev pub WfValues : List Symbol → List (Option ℕ) → Type 0
+WfValues [] [] = Unit {0}
+WfValues [] (v ∷ vs) = ⊥
+WfValues (s ∷ ss) [] = ⊥
+WfValues (s ∷ ss) (none ∷ vs) = WfValues ss vs
+WfValues (s ∷ ss) (some v ∷ vs) = (s ≡ functor 0) × WfValues ss vs
+
+abbrev pub WfFormat : List Symbol → Format → Type 0
+WfFormat ss format1 = Unit {0}
+WfFormat ss (format2 vs) = WfValues ss vs × (distinct [] (numbers vs) ≡ true)
+
 pub record WfDeck (d : Deck) : Type 0 where
   pub some_symbol : 1 ≤ length d.symbols
   pub few_symbols : length d.symbols ≤ 4096
-  pub total : 8 + length d.symbols + length d.clauses + length (clauses_cells d.clauses) ≤ 16384
+  pub total : 8 + symbol_room (format_number d.format) (length d.symbols) + length d.clauses + length (clauses_cells d.clauses) ≤ 16384
   pub symbols : All WfSymbol d.symbols
+  pub format : WfFormat d.symbols d.format
   pub clauses : All (WfClause d.symbols) d.clauses
 
 pub record WfQuery (S : List Symbol) (query : List Literal) : Type 0 where

@@ -9,7 +9,7 @@ ghost use Rattle.deck.specs.Kinds.{symbols_of};
 ghost use Rattle.deck.specs.Scan.{scan};
 ghost use Rattle.stored.specs.Passing.{lead, fits_as, mark_fits, GoalFound, GoalsFound, OpenFound};
 
-use deck::parts::Parts;
+use deck::opened::Opened;
 use deck::{kinds, terms};
 
 // The number of cells in front of the first literal.
@@ -130,8 +130,8 @@ pub fn open_goals(symbols: &[u16], store: &[u16], counts: OpenCounts) -> Option<
     Some((middle, end))
 }
 
-// The same over a deck whose header fits.
-pub fn deck_goals(deck: &Parts, store: &[u16], counts: OpenCounts) -> Option<(usize, usize)>
+// The same over an opened deck.
+pub fn deck_goals(deck: &Opened, store: &[u16], counts: OpenCounts) -> Option<(usize, usize)>
     ensures { (d : Deck) → open_deck deck.now.words.now ≡ accepted d → OpenFound d.symbols store.now counts.pending counts.parked counts.terms result }
 {
     open_goals(deck.symbols(), store, counts)

@@ -1,17 +1,15 @@
--- Whether a token is `fn` or `pr`, and reading a text token by token.
+-- Whether a token is a key, and reading a text token by token.
 use Rattle.std.proofs.Common.{◌≡◌, ℕ, zero, suc, ◌≤◌, Bool, true, false, ◌&&◌, ◌||◌, List, [], ◌∷◌, refl, ap, ap₂, sym, ◌∙◌, subst, arith}
 use Rattle.std.proofs.Math.Option.{none, some, none-ne-some, some-injective}
 use lib.Dec.{eqb}
 use lib.Pointwise.{pointwise}
 use Rattle.text_rules.specs.TextTokens.{name, Token}
-use Rattle.text_rules.specs.TextGrammar.{is_key, same_bytes, fn_text, pr_text, head, body, State, item, keyed, declared, slashed, counted, clause, literal, negated, finished, term, named, after, Part, Follow, ◌⇒◌, after_term, after_name, follows, next, unread}
+use Rattle.text_rules.specs.TextGrammar.{is_key, is_number_key, same_bytes, fn_text, pr_text, nu_text, head, body, State, item, keyed, declared, slashed, counted, number_keyed, number_declared, clause, literal, negated, finished, term, named, after, Part, Follow, ◌⇒◌, after_term, after_name, follows, next, unread}
 use Rattle.text.specs.declared.tokens.Kind.{Kind}
 use Rattle.text.specs.declared.tokens.Kind.TheVariants.{Name}
 use Rattle.text.specs.Kinds.{kind_of}
-use Rattle.std.specs.Prelude.{Option, Some, None}
-use Rattle.std.specs.Option.{is_some}
-use Rattle.text.specs.declared.grammar.Key.{Key}
-use Rattle.text.specs.declared.grammar.Key.TheVariants.{Function, Predicate}
+use Rattle.std.specs.Prelude.{Some, None}
+use Rattle.text.specs.declared.grammar.Key.TheVariants.{Function, Predicate, Number}
 use Rattle.text.specs.Steps.{depth_of, IsKey}
 
 -- The rules' test of two lists of bytes is the one of slices.
@@ -27,6 +25,10 @@ module _ (u : Token) (bs : List ℕ) (k : u.kind ≡ name) (b : u.bytes ≡ bs) 
   unfolding is_key fn_text pr_text
   key-tests = rw (k, b) (ap₂ ◌||◌ (same_pointwise bs (102 ∷ 110 ∷ [])) (same_pointwise bs (112 ∷ 114 ∷ [])))
 
+  number-tests : is_number_key u ≡ pointwise eqb bs (110 ∷ 117 ∷ [])
+  unfolding is_number_key nu_text
+  number-tests = rw (k, b) (same_pointwise bs (110 ∷ 117 ∷ []))
+
   is-fn : same_bytes u.bytes fn_text ≡ pointwise eqb bs (102 ∷ 110 ∷ [])
   unfolding fn_text
   is-fn = rw b (same_pointwise bs (102 ∷ 110 ∷ []))
@@ -40,17 +42,17 @@ module _ (u : Token) (bs : List ℕ) (k : u.kind ≡ name) (b : u.bytes ≡ bs) 
   pub second-key : pointwise eqb bs (102 ∷ 110 ∷ []) ≡ false → pointwise eqb bs (112 ∷ 114 ∷ []) ≡ true → IsKey u (Some Predicate)
   second-key e f = (second-tested e ∙ f, is-fn ∙ e)
 
-  pub other-name : pointwise eqb bs (102 ∷ 110 ∷ []) ≡ false → pointwise eqb bs (112 ∷ 114 ∷ []) ≡ false → IsKey u None
-  other-name e f = second-tested e ∙ f
+  pub third-key :
+      pointwise eqb bs (102 ∷ 110 ∷ []) ≡ false → pointwise eqb bs (112 ∷ 114 ∷ []) ≡ false → pointwise eqb bs (110 ∷ 117 ∷ []) ≡ true
+      → IsKey u (Some Number)
+  third-key e f g = (second-tested e ∙ f, number-tests ∙ g)
 
--- Whether it is a key.
-pub key_tested : (u : Token) (r : Option Key) → IsKey u r → is_key u ≡ is_some r
-key_tested u (Some Function) e = e.0
-key_tested u (Some Predicate) e = e.0
-key_tested u None e = e
+  pub other-name :
+      pointwise eqb bs (102 ∷ 110 ∷ []) ≡ false → pointwise eqb bs (112 ∷ 114 ∷ []) ≡ false → pointwise eqb bs (110 ∷ 117 ∷ []) ≡ false → IsKey u None
+  other-name e f g = (second-tested e ∙ f, number-tests ∙ g)
 
-pub no-key : (k : Kind) (u : Token) → (k ≡ Name → ⊥) → u.kind ≡ kind_of k → is_key u ≡ false
-unfolding is_key
+pub no-key : (k : Kind) (u : Token) → (k ≡ Name → ⊥) → u.kind ≡ kind_of k → IsKey u None
+unfolding is_key is_number_key
 no-key k u f e = grind (arith, f)
 
 -- Brackets open at most one at a time.
@@ -75,11 +77,14 @@ term-bounded p (suc d) = (omega arith, (omega arith, tt))
 
 follows-bounded : (s : State) → Bounded (suc (depth_of s)) (follows s)
 unfolding follows after_name
-follows-bounded item = (omega arith, (omega arith, (omega arith, tt)))
-follows-bounded keyed = (omega arith, (omega arith, term-bounded head 0))
-follows-bounded declared = (omega arith, tt)
-follows-bounded slashed = (omega arith, tt)
-follows-bounded counted = (omega arith, tt)
+follows-bounded (item false) = (omega arith, (omega arith, (omega arith, tt)))
+follows-bounded (item true) = (omega arith, (omega arith, (omega arith, (omega arith, tt))))
+follows-bounded (keyed m) = (omega arith, (omega arith, term-bounded head 0))
+follows-bounded (declared m) = (omega arith, tt)
+follows-bounded (slashed m) = (omega arith, tt)
+follows-bounded (counted m) = (omega arith, tt)
+follows-bounded number_keyed = (omega arith, (omega arith, term-bounded head 0))
+follows-bounded number_declared = (omega arith, tt)
 follows-bounded clause = (omega arith, (omega arith, tt))
 follows-bounded literal = (omega arith, (omega arith, tt))
 follows-bounded negated = (omega arith, tt)

@@ -1,3 +1,4 @@
+pub mod KindLaws
 pub mod ScanLaws
 pub mod TokenLaws
 pub mod GrammarLaws
@@ -6,3 +7,4 @@ pub mod CountLaws
 pub mod NameLaws
 pub mod NumberLaws
 pub mod ClassLaws
+pub mod StartLaws

@@ -1,15 +1,17 @@
 -- Reading a text token by token.
-use Rattle.std.proofs.Common.{ℕ, ◌-◌, ◌≤◌, ◌<◌, ◌≡◌, List, ◌∷◌, length, take, drop, refl, ap, sym, ◌∙◌, arith}
+use Rattle.std.proofs.Common.{ℕ, ◌-◌, ◌≤◌, ◌<◌, ◌≡◌, List, ◌∷◌, length, take, drop, refl, ap, ap₂, sym, ◌∙◌, arith}
 use Rattle.std.proofs.Math.Option.{Option, none, some, none-ne-some}
 use Rattle.text_rules.specs.TextTokens.{token, tokens}
 use Rattle.text_rules.specs.TextTokens as rules
 use Rattle.text_rules.specs.TextGrammar.{State, item, follows, next, unread}
-use Rattle.text_rules.specs.Text.{place_of}
+use Rattle.text_rules.specs.Text.{text_unread, place_of}
 use Rattle.text.specs.declared.tokens.Kind.TheVariants.{Ending, Opening}
 use Rattle.text.specs.declared.tokens.Token.{Token}
 use Rattle.text.specs.Kinds.{kind_of}
 use Rattle.text.specs.Scan.{tokens_from, Next}
 use Rattle.text.specs.Steps.{depth_of}
+use Rattle.text.specs.declared.start.Start.{Start}
+use Rattle.text.specs.Starts.{Starts}
 use Rattle.text.proofs.TokenLaws.{not-ending}
 use Rattle.text.proofs.GrammarLaws.{one_deeper, unread-goes, unread-stops, unread-ends}
 
@@ -17,10 +19,11 @@ use Rattle.text.proofs.GrammarLaws.{one_deeper, unread-goes, unread-stops, unrea
 pub record ReadTo (text : List ℕ) (s : State) (at : ℕ) : Type 0 where
   pub inside : at ≤ length text
   pub shallow : depth_of s ≤ at
-  pub same : unread item (tokens 0 text) ≡ unread s (tokens 0 (drop at text))
+  pub same : text_unread text ≡ unread s (tokens 0 (drop at text))
 
-pub read_none : (text : List ℕ) → ReadTo text item 0
-read_none text = record { inside = omega arith; shallow = omega arith; same = refl }
+pub read_none : (text : List ℕ) (r : Start) → Starts text r → ReadTo text (item r.numbers) r.at
+unfolding text_unread
+read_none text r h = record { inside = h.inside; shallow = omega arith; same = ap₂ (λ m ts. unread (item m) ts) (sym h.numbers) (sym h.items) }
 
 -- The token that the code's one stands for.
 abbrev pub token_of : List ℕ → Token → rules.Token
@@ -30,7 +33,7 @@ module _ (text : List ℕ) (s : State) (at : ℕ) (r : Token) (n : Next text at 
   abbrev this : rules.Token
   this = token_of text r
 
-  here : unread item (tokens 0 text) ≡ unread s (this ∷ tokens_from r.kind text r.to)
+  here : text_unread text ≡ unread s (this ∷ tokens_from r.kind text r.to)
   here = d.same ∙ ap (unread s) n.scanned
 
   pub shallow-enough : length text < 18446744073709551616 → r.kind ≡ Opening → depth_of s < 18446744073709551615
@@ -44,13 +47,13 @@ module _ (text : List ℕ) (s : State) (at : ℕ) (r : Token) (n : Next text at 
         same = here ∙ unread-goes s u this (tokens_from r.kind text r.to) e ∙ ap (unread u) (not-ending r.kind text r.to f);
       }
 
-  pub read_all : (u : State) → next (follows s) this ≡ some u → r.kind ≡ Ending → place_of text (unread item (tokens 0 text)) ≡ none
+  pub read_all : (u : State) → next (follows s) this ≡ some u → r.kind ≡ Ending → place_of text (text_unread text) ≡ none
   unfolding place_of
   read_all u e f =
       let last : unread u (tokens_from r.kind text r.to) ≡ none = ap (λ k. unread u (tokens_from k text r.to)) f ∙ unread-ends u in
       ap (place_of text) (here ∙ unread-goes s u this (tokens_from r.kind text r.to) e ∙ last)
 
-  pub read-stops : next (follows s) this ≡ none → place_of text (unread item (tokens 0 text)) ≡ some r.from
+  pub read-stops : next (follows s) this ≡ none → place_of text (text_unread text) ≡ some r.from
   unfolding place_of
   read-stops e =
       let back : length text - (length text - r.from) ≡ r.from = omega (arith, n.forward, n.inside) in

@@ -2,6 +2,7 @@ pub mod Kinds
 pub mod Scan
 pub mod Tokens
 pub mod Steps
+pub mod Starts
 pub mod Readable
 pub mod Counting
 pub mod Hash

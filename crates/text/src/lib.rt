@@ -6,5 +6,6 @@ mod classes;
 pub mod grammar;
 pub mod names;
 pub mod readable;
+pub mod start;
 pub mod tokens;
 pub mod walk;

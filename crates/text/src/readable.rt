@@ -1,15 +1,19 @@
 // A text that is in the grammar.
 ghost use Rattle.std.specs.Prelude.{◌≡◌};
 ghost use Rattle.std.proofs.Math.Option.{none};
-ghost use Rattle.text_rules.specs.TextTokens.{tokens};
-ghost use Rattle.text_rules.specs.TextGrammar.{item, unread};
+ghost use Rattle.std.proofs.Props.{props};
+ghost use Rattle.text_rules.specs.Text.{text_unread};
+ghost use Rattle.text.specs.Starts.{Starts};
 
 use crate::grammar::unreadable;
+use crate::start::Start;
 
 #[derive(Clone, Copy)]
 pub struct Readable<'a> {
     pub text: &'a [u8],
-    ghost in_grammar: { unread item (tokens 0 text.now) ≡ none },
+    pub start: Start,
+    ghost starts: { Starts text.now start } by { Prim.hlevel props },
+    ghost in_grammar: { text_unread text.now ≡ none },
 }
 
 impl<'a> Readable<'a> {
@@ -19,9 +23,10 @@ impl<'a> Readable<'a> {
     pub fn new(text: &'a [u8]) -> Result<Readable<'a>, usize>
         ensures { ReadsText text.now result }
     {
-        match unreadable(text) {
+        let start = Start::of(text);
+        match unreadable(text, start) {
             Some(place) => Err(place),
-            None => Ok(Readable { text }),
+            None => Ok(Readable { text, start }),
         }
     }
 }

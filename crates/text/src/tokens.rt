@@ -1,18 +1,19 @@
 // The token at a place of a text. Text and place stay two parameters: `Tokens` has both, with the bound, but each call here would make one anew.
 ghost use Rattle.std.specs.Prelude.{◌≡◌, ◌+◌, ◌-◌, ◌≤◌, ◌<◌, ◌⊎◌, length, get_or, take, drop, min};
 ghost use Rattle.std.specs.List.{prefix_len};
-ghost use Rattle.text_rules.specs.TextTokens.{space, is_class, letter, zero_digit, digit, underscore, colon, class_of, word_byte, digit_byte, longest, numeral, value};
-ghost use Rattle.text.specs.Scan.{Skipped, DigitsAt, single, Scanned, Next};
+ghost use Rattle.text_rules.specs.TextTokens.{space, is_class, letter, zero_digit, digit, underscore, colon, minus, class_of, word_byte, digit_byte, longest, numeral, value};
+ghost use Rattle.text.specs.Scan.{Skipped, DigitsAt, single, NumberKind, NegativeKind, Scanned, Next};
 
 use crate::classes::{Class, class_of, is_digit, is_space, is_word};
 
-// A number and a variable have their value: an arity is at most 15, a variable at most 1,023. `Ending` and `Invalid` are kinds of the rules, so they are kinds here.
+// A number and a variable have their value: an arity is at most 15, a variable at most 1,023. An amount has the word of its value, in two's complement. `Ending` and `Invalid` are kinds of the rules, so they are kinds here.
 #[derive(Clone, Copy, Debug, PartialEq, Eq)]
 pub enum Kind {
     Invalid,
     Ending,
     Name,
     Number(u16),
+    Amount(u16),
     Variable(u16),
     Implies,
     Slash,
@@ -134,25 +135,54 @@ fn name_token(text: &[u8], from: usize) -> Token
     }
 }
 
-// As one function with variable_token this would take the bytes in front, the bound and the kind as a closure, whose contract is longer than both.
+// The kind of a number: an arity, or a value that is none.
+#[tactic(auto, using(crate::proofs::KindLaws::arity_kind, crate::proofs::KindLaws::amount_kind, crate::proofs::KindLaws::no_kind))]
+fn number_kind(value: u16) -> Kind
+    ensures { NumberKind value result }
+{
+    match value {
+        0..=15 => Kind::Number(value),
+        16..=32767 => Kind::Amount(value),
+        _ => Kind::Invalid,
+    }
+}
+
+// The kind of `-` and a number, which is not 0.
+#[tactic(auto, using(crate::proofs::KindLaws::negative_amount, crate::proofs::KindLaws::minus_zero, crate::proofs::KindLaws::minus_large))]
+fn negative_kind(value: u16) -> Kind
+    ensures { NegativeKind value result }
+{
+    match value {
+        1..=32768 => Kind::Amount(u16::MAX - value + 1),
+        _ => Kind::Invalid,
+    }
+}
+
+// As one function with negative_token and variable_token this would take the bytes in front and the kind as a closure, whose contract is longer than each.
 fn number_token(text: &[u8], from: usize) -> Token
     requires { (from < length text.now) × ((class_of (get_or text.now from 0) ≡ zero_digit) ⊎ (class_of (get_or text.now from 0) ≡ digit)) }
     ensures { Scanned text.now from result }
 {
     let n = number_at(text, from);
-    let to = n.to;
-    if n.value <= 15 {
-        return Token {
-            kind: Kind::Number(n.value),
-            from,
-            to,
-        };
-    }
+    let kind = number_kind(n.value);
     Token {
-        kind: Kind::Invalid,
+        kind,
         from,
-        to,
+        to: n.to,
     }
+}
+
+fn negative_token(text: &[u8], from: usize) -> Token
+    requires { (from < length text.now) × (class_of (get_or text.now from 0) ≡ minus) }
+    ensures { Scanned text.now from result }
+{
+    let n = number_at(text, from + 1);
+    let to = n.to;
+    if to == from + 1 {
+        return one_byte(Kind::Invalid, from);
+    }
+    let kind = negative_kind(n.value);
+    Token { kind, from, to }
 }
 
 fn variable_token(text: &[u8], from: usize) -> Token
@@ -202,8 +232,9 @@ fn token_at(text: &[u8], from: usize) -> Token
         Class::Zero | Class::Digit => number_token(text, from),
         Class::Underscore => variable_token(text, from),
         Class::Colon => implies_token(text, from),
+        Class::Minus => negative_token(text, from),
         Class::Mark(kind) => one_byte(kind, from),
-        Class::Unknown | Class::Space | Class::Minus => one_byte(Kind::Invalid, from),
+        Class::Unknown | Class::Space => one_byte(Kind::Invalid, from),
     }
 }
 

@@ -7,13 +7,14 @@ use native.Mathlib.Omega.{arith}
 use native.Mathlib.Decide.{dec_lt}
 use lib.ListN.{length, take, drop}
 use lib.Seq.{take_all}
-use lib.Dec.{eqb}
-use borrow.Author.Tests.{lt-ltb, le-ltb, le-leb, eq-eqb, eqb-true}
+use lib.Dec.{eqb, leb, ltb}
+use borrow.Author.Tests.{lt-ltb, le-ltb, le-leb, eq-eqb, eqb-true, ltb-true, ltb-false}
 use Rattle.rules.specs.WellFormed.{All}
 use Rattle.rules.specs.Listing.{digits, decimal}
-use Rattle.text_rules.specs.TextTokens.{name, number, variable, class_in, ranges, class_of, letter, zero_digit, is_class, digit_byte, word_byte, longest, numeral, value, Token, token, at_most, number_token, variable_token, token_from, tokens}
-use Rattle.text_rules.specs.TextGrammar.{same_bytes}
-use Rattle.text_rules.specs.TextWriter.{name_text}
+use Rattle.text_rules.specs.TextTokens.{Kind, name, number, amount, variable, class_in, ranges, class_of, space, letter, zero_digit, is_class, digit_byte, word_byte, longest, numeral, value, Token, token, at_most, number_kind, number_token, negative_kind, negative_token, variable_token, token_from, tokens}
+use Rattle.text_rules.specs.TextGrammar.{same_bytes, is_value}
+use Rattle.text_rules.specs.TextWords.{value_word}
+use Rattle.text_rules.specs.TextWriter.{name_text, value_text}
 use Rattle.rules.proofs.ListLaws.{all-weaken}
 
 -- Digits, one by one.
@@ -197,28 +198,185 @@ scan-variable v rest h e =
     ap (λ (t : Token). t ∷ tokens (length t.bytes - 1) (decimal v rest)) (ap (λ x. variable_token 95 x left) (numeral-decimal v rest e) ∙ variable-token v left h)
     ∙ ap {B = List Token} (var_token v rest ∷◌) (ap (tokens (length (95 ∷ decimal v []) - 1)) (decimal-append v rest) ∙ skip-after 95 (decimal v []) rest)
 
--- An arity and the dot after it.
+-- A token from a digit on is a number.
+digit-scanned :
+    (n : ℕ) → n < 10 → (bs : List ℕ)
+    → (is_class space (48 + n) ≡ false) × (eqb (48 + n) 45 ≡ false) × (token_from (class_of (48 + n)) (48 + n) bs ≡ number_token (numeral ((48 + n) ∷ bs)) (length ((48 + n) ∷ bs)))
+unfolding token_from is_class class_of class_in ranges
+digit-scanned zero h bs = (refl, refl, refl)
+digit-scanned (suc zero) h bs = (refl, refl, refl)
+digit-scanned (suc (suc zero)) h bs = (refl, refl, refl)
+digit-scanned (suc (suc (suc zero))) h bs = (refl, refl, refl)
+digit-scanned (suc (suc (suc (suc zero)))) h bs = (refl, refl, refl)
+digit-scanned (suc (suc (suc (suc (suc zero))))) h bs = (refl, refl, refl)
+digit-scanned (suc (suc (suc (suc (suc (suc zero)))))) h bs = (refl, refl, refl)
+digit-scanned (suc (suc (suc (suc (suc (suc (suc zero))))))) h bs = (refl, refl, refl)
+digit-scanned (suc (suc (suc (suc (suc (suc (suc (suc zero)))))))) h bs = (refl, refl, refl)
+digit-scanned (suc (suc (suc (suc (suc (suc (suc (suc (suc zero))))))))) h bs = (refl, refl, refl)
+digit-scanned (suc (suc (suc (suc (suc (suc (suc (suc (suc (suc n)))))))))) h bs = absurd (omega arith)
+
+-- A decimal number begins with one.
+abbrev DigitFirst : List ℕ → Type 0
+DigitFirst [] = ⊥
+DigitFirst (b ∷ bs) = (d : ℕ) × (d < 10) × (b ≡ 48 + d)
+
+digits-begin : (f n : ℕ) (xs : List ℕ) → (f ≡ 0 → DigitFirst xs) → DigitFirst (digits f n xs)
+digits-begin =
+    by_digits (λ f n xs. (f ≡ 0 → DigitFirst xs) → DigitFirst (digits f n xs))
+    (λ n xs h. unfold digits in h refl)
+    (λ f n xs l h. subst DigitFirst (sym (one-digit n f xs l)) (n, l, refl))
+    (λ f n xs l r h. subst DigitFirst (sym (more-digits n f xs l)) (r (λ e. (n % 10, omega arith, refl))))
+
+decimal-first : (n : ℕ) → (d : ℕ) × (zs : List ℕ) × (d < 10) × (decimal n [] ≡ (48 + d) ∷ zs)
+unfolding decimal
+decimal-first n = go (decimal n []) refl (digits-begin (suc n) n [] (λ e. absurd (omega (arith, e))))
+  where
+    go : (xs : List ℕ) → decimal n [] ≡ xs → DigitFirst xs → (d : ℕ) × (zs : List ℕ) × (d < 10) × (decimal n [] ≡ (48 + d) ∷ zs)
+    go [] e h = absurd h
+    go (b ∷ bs) e h = (h.0, bs, h.1, e ∙ ap {B = List ℕ} (◌∷ bs) h.2)
+
+scan-step : (b : ℕ) (bs : List ℕ) (t : Token) → is_class space b ≡ false → token_from (class_of b) b bs ≡ t → tokens 0 (b ∷ bs) ≡ t ∷ tokens (length t.bytes - 1) bs
+unfolding tokens
+scan-step b bs t s e = rw (s, tokens) (ap (λ (u : Token). u ∷ tokens (length u.bytes - 1) bs) e)
+
+number-token : (n left : ℕ) → number_token (decimal n []) left ≡ token (number_kind n) (decimal n []) left
+unfolding number_token
+number-token n left = ap (λ k. token (number_kind k) (decimal n []) left) (value-decimal n)
+
+-- A number, whatever its value.
+pub scan-number :
+    (n : ℕ) (rest : List ℕ) → longest digit_byte rest ≡ []
+    → tokens 0 (decimal n rest) ≡ token (number_kind n) (decimal n []) (length (decimal n rest)) ∷ tokens 0 rest
+scan-number n rest e =
+    let f = decimal-first n in
+    let b = 48 + f.0 in
+    let bs = f.1 ++ rest in
+    let whole : decimal n rest ≡ b ∷ bs = decimal-append n rest ∙ ap (◌++ rest) f.3 in
+    let s = digit-scanned f.0 f.2 bs in
+    let t = token (number_kind n) (decimal n []) (length (decimal n rest)) in
+    let q : token_from (class_of b) b bs ≡ t =
+    s.2 ∙ ap (λ xs. number_token (numeral xs) (length xs)) (sym whole) ∙ ap (λ ds. number_token ds (length (decimal n rest))) (numeral-decimal n rest e)
+    ∙ number-token n (length (decimal n rest)) in
+    ap (tokens 0) whole ∙ scan-step b bs t s.0 q ∙ ap {B = List Token} (t ∷◌) (ap (λ xs. tokens (length xs - 1) bs) f.3 ∙ skip-after b f.1 rest)
+
+-- An arity.
+pub arity-kind : (k : ℕ) → k ≤ 15 → number_kind k ≡ number
+unfolding number_kind
+arity-kind k h = rw (le-leb k 15 h, number_kind) refl
+
 pub scan-arity :
     (k : ℕ) (rest : List ℕ) → k ≤ 15
     → tokens 0 (decimal k (46 ∷ rest)) ≡ token number (decimal k []) (length (decimal k (46 ∷ rest))) ∷ tokens 0 (46 ∷ rest)
-unfolding tokens token_from number_token numeral longest digit_byte at_most value decimal digits is_class class_of class_in ranges
-scan-arity zero rest h = refl
-scan-arity (suc zero) rest h = refl
-scan-arity (suc (suc zero)) rest h = refl
-scan-arity (suc (suc (suc zero))) rest h = refl
-scan-arity (suc (suc (suc (suc zero)))) rest h = refl
-scan-arity (suc (suc (suc (suc (suc zero))))) rest h = refl
-scan-arity (suc (suc (suc (suc (suc (suc zero)))))) rest h = refl
-scan-arity (suc (suc (suc (suc (suc (suc (suc zero))))))) rest h = refl
-scan-arity (suc (suc (suc (suc (suc (suc (suc (suc zero)))))))) rest h = refl
-scan-arity (suc (suc (suc (suc (suc (suc (suc (suc (suc zero))))))))) rest h = refl
-scan-arity (suc (suc (suc (suc (suc (suc (suc (suc (suc (suc zero)))))))))) rest h = refl
-scan-arity (suc (suc (suc (suc (suc (suc (suc (suc (suc (suc (suc zero))))))))))) rest h = refl
-scan-arity (suc (suc (suc (suc (suc (suc (suc (suc (suc (suc (suc (suc zero)))))))))))) rest h = refl
-scan-arity (suc (suc (suc (suc (suc (suc (suc (suc (suc (suc (suc (suc (suc zero))))))))))))) rest h = refl
-scan-arity (suc (suc (suc (suc (suc (suc (suc (suc (suc (suc (suc (suc (suc (suc zero)))))))))))))) rest h = refl
-scan-arity (suc (suc (suc (suc (suc (suc (suc (suc (suc (suc (suc (suc (suc (suc (suc zero))))))))))))))) rest h = refl
-scan-arity (suc (suc (suc (suc (suc (suc (suc (suc (suc (suc (suc (suc (suc (suc (suc (suc k)))))))))))))))) rest h = absurd (omega arith)
+unfolding longest digit_byte is_class class_of class_in ranges
+scan-arity k rest h =
+    scan-number k (46 ∷ rest) refl
+    ∙ ap {B = List Token} (λ x. token x (decimal k []) (length (decimal k (46 ∷ rest))) ∷ tokens 0 (46 ∷ rest)) (arity-kind k h)
+
+-- A value, by its word.
+unfoldable pub value_kind : ℕ → Kind
+value_kind w = elim (ltb w 32768) [ true ↦ number_kind w | false ↦ negative_kind (65536 - w) ]
+
+abbrev pub value_token : ℕ → List ℕ → Token
+value_token w rest = token (value_kind w) (value_text w []) (length (value_text w rest))
+
+-- What is said of numbers from 0 on, and of negative ones, is said of all.
+small-kind : (w : ℕ) → ltb w 32768 ≡ true → value_kind w ≡ number_kind w
+unfolding value_kind
+small-kind w q = rw (q, value_kind) refl
+
+small-text : (w : ℕ) (rest : List ℕ) → ltb w 32768 ≡ true → value_text w rest ≡ decimal w rest
+unfolding value_text
+small-text w rest q = rw (q, value_text) refl
+
+negative-is : (w : ℕ) → ltb w 32768 ≡ false → value_kind w ≡ negative_kind (65536 - w)
+unfolding value_kind
+negative-is w q = rw (q, value_kind) refl
+
+negative-text : (w : ℕ) (rest : List ℕ) → ltb w 32768 ≡ false → value_text w rest ≡ 45 ∷ decimal (65536 - w) rest
+unfolding value_text
+negative-text w rest q = rw (q, value_text) refl
+
+negative-token : (m left : ℕ) → negative_token 45 (decimal m []) left ≡ token (negative_kind m) (45 ∷ decimal m []) left
+unfolding negative_token decimal
+negative-token m left =
+    let f = digits-first (suc m) m [] (omega arith) in
+    let e : value 0 (f.0 ∷ f.1) ≡ m = ap (value 0) (sym f.2) ∙ value-decimal m in
+    rw f.2 (ap (λ k. token (negative_kind k) (45 ∷ f.0 ∷ f.1) left) e)
+
+scan-negative :
+    (m : ℕ) (rest : List ℕ) → longest digit_byte rest ≡ []
+    → tokens 0 (45 ∷ decimal m rest) ≡ token (negative_kind m) (45 ∷ decimal m []) (length (45 ∷ decimal m rest)) ∷ tokens 0 rest
+unfolding tokens token_from is_class class_of class_in ranges
+scan-negative m rest e =
+    let left = length (45 ∷ decimal m rest) in
+    ap (λ (t : Token). t ∷ tokens (length t.bytes - 1) (decimal m rest)) (ap (λ x. negative_token 45 x left) (numeral-decimal m rest e) ∙ negative-token m left)
+    ∙ ap {B = List Token} (token (negative_kind m) (45 ∷ decimal m []) left ∷◌) (ap (tokens (length (45 ∷ decimal m []) - 1)) (decimal-append m rest) ∙ skip-after 45 (decimal m []) rest)
+
+pub scan-value : (w : ℕ) (rest : List ℕ) → longest digit_byte rest ≡ [] → tokens 0 (value_text w rest) ≡ value_token w rest ∷ tokens 0 rest
+scan-value w rest e = go (ltb w 32768) refl
+  where
+    Scans : Kind → List ℕ → List ℕ → Type 0
+    Scans k bs all = tokens 0 all ≡ token k bs (length all) ∷ tokens 0 rest
+
+    go : (b : Bool) → ltb w 32768 ≡ b → tokens 0 (value_text w rest) ≡ value_token w rest ∷ tokens 0 rest
+    go true q =
+        subst (λ k. Scans k (value_text w []) (value_text w rest)) (sym (small-kind w q))
+        (subst (λ bs. Scans (number_kind w) bs (value_text w rest)) (sym (small-text w [] q))
+        (subst (Scans (number_kind w) (decimal w [])) (sym (small-text w rest q)) (scan-number w rest e)))
+    go false q =
+        let m = 65536 - w in
+        subst (λ k. Scans k (value_text w []) (value_text w rest)) (sym (negative-is w q))
+        (subst (λ bs. Scans (negative_kind m) bs (value_text w rest)) (sym (negative-text w [] q))
+        (subst (Scans (negative_kind m) (45 ∷ decimal m [])) (sym (negative-text w rest q)) (scan-negative m rest e)))
+
+abbrev IsValue : Kind → Type 0
+IsValue k = (bs : List ℕ) (left : ℕ) → is_value (token k bs left) ≡ true
+
+number-value : IsValue number
+unfolding is_value
+number-value bs left = refl
+
+amount-value : IsValue amount
+unfolding is_value
+amount-value bs left = refl
+
+at-most-value : (most n : ℕ) → n ≤ most → IsValue (at_most most amount n)
+unfolding at_most
+at-most-value most n h = subst IsValue (sym (rw (le-leb n most h, at_most) refl)) amount-value
+
+number-or-amount : (w : ℕ) → w ≤ 32767 → IsValue (number_kind w)
+unfolding number_kind
+number-or-amount w h = go (leb w 15) refl
+  where
+    go : (b : Bool) → leb w 15 ≡ b → IsValue (number_kind w)
+    go true q = subst IsValue (sym (rw (q, number_kind) refl)) number-value
+    go false q = subst IsValue (sym (rw (q, number_kind) refl)) (at-most-value 32767 w h)
+
+negative-amount : (m : ℕ) → 1 ≤ m → m ≤ 32768 → IsValue (negative_kind m)
+unfolding negative_kind
+negative-amount m l h = subst IsValue (sym (rw (le-leb 1 m l, negative_kind) refl)) (at-most-value 32768 m h)
+
+pub value-stands : (w : ℕ) (rest : List ℕ) → w < 65536 → is_value (value_token w rest) ≡ true
+value-stands w rest h = go (ltb w 32768) refl (value_text w []) (length (value_text w rest))
+  where
+    go : (b : Bool) → ltb w 32768 ≡ b → IsValue (value_kind w)
+    go true q = subst IsValue (sym (small-kind w q)) (number-or-amount w (omega (arith, ltb-true w 32768 q)))
+    go false q = subst IsValue (sym (negative-is w q)) (negative-amount (65536 - w) (omega arith) (omega (arith, ltb-false w 32768 q)))
+
+word-of : (b : ℕ) (bs : List ℕ) → eqb b 45 ≡ false → value_word (b ∷ bs) ≡ value 0 (b ∷ bs)
+unfolding value_word
+word-of b bs e = rw (e, value_word) refl
+
+pub value-read : (w : ℕ) → w < 65536 → value_word (value_text w []) ≡ w
+unfolding value_word
+value-read w h = go (ltb w 32768) refl
+  where
+    go : (b : Bool) → ltb w 32768 ≡ b → value_word (value_text w []) ≡ w
+    go true q =
+        let f = decimal-first w in
+        let s = digit-scanned f.0 f.2 [] in
+        ap value_word (small-text w [] q ∙ f.3) ∙ word-of (48 + f.0) f.1 s.1 ∙ ap (value 0) (sym f.3) ∙ value-decimal w
+    go false q = ap value_word (negative-text w [] q) ∙ ap (65536 -◌) (value-decimal (65536 - w)) ∙ omega (arith, ltb-false w 32768 q)
 
 -- Names are told apart.
 same_refl : (xs : List ℕ) → same_bytes xs xs ≡ true
@@ -226,7 +384,7 @@ unfolding same_bytes
 same_refl [] = refl
 same_refl (x ∷ xs) = (and-eq-true_iff (eqb x x) (same_bytes xs xs)).1 (eq-eqb x x refl, same_refl xs)
 
-same_bytes_lem : (xs ys : List ℕ) → same_bytes xs ys ≡ true → xs ≡ ys
+pub same_bytes_lem : (xs ys : List ℕ) → same_bytes xs ys ≡ true → xs ≡ ys
 unfolding same_bytes
 same_bytes_lem [] [] e = refl
 same_bytes_lem [] (y ∷ ys) e = cc

@@ -1,10 +1,10 @@
--- Texts and what they are read as (document 02, U1), shown about the written rules by computing them.
+-- Texts and what they are read as (document 02, U1 and U10), shown about the written rules by computing them.
 use Prim.Native.Nat.{ℕ, zero, suc}
 use mathlib.Core.Path.{◌≡◌, refl}
 use mathlib.Core.List.{List, [], ◌∷◌, map}
 use mathlib.Core.Option.{Option, none, some}
 use lib.ListN.{length}
-use Rattle.rules.specs.Refusals.{bad_header, long_clause, bad_clause, bad_text, no_room, Checked, refused, accepted}
+use Rattle.rules.specs.Refusals.{bad_header, bad_symbol, long_clause, bad_clause, bad_text, no_room, Checked, refused, accepted}
 use Rattle.text_rules.specs.Text.{read_text, write_text, bad_place}
 use Rattle.text_rules.specs.All.{rules}
 use Rattle.rules.proofs.Table.{deck_l}
@@ -32,6 +32,24 @@ read =
     ∷ case (102 ∷ 110 ∷ 32 ∷ 102 ∷ 47 ∷ 50 ∷ 46 ∷ 102 ∷ 110 ∷ 32 ∷ 99 ∷ 47 ∷ 48 ∷ 46 ∷ 112 ∷ 114 ∷ 32 ∷ 112 ∷ 47 ∷ 49 ∷ 46 ∷ 112 ∷ 40 ∷ 102 ∷ 40 ∷ 102 ∷ 40 ∷ 99 ∷ 44 ∷ 95 ∷ 48 ∷ 41 ∷ 44 ∷ 99 ∷ 41 ∷ 41 ∷ 46 ∷ []) 100 (accepted (1 ∷ 3 ∷ 8 ∷ 1 ∷ 11 ∷ 6 ∷ 12 ∷ 18 ∷ 2 ∷ 0 ∷ 257 ∷ 0 ∷ 2 ∷ 0 ∷ 0 ∷ 1 ∷ 32768 ∷ 1 ∷ [])) none
     -- A name of 16 bytes. pr a23456789012345z/0.a23456789012345z.
     ∷ case (112 ∷ 114 ∷ 32 ∷ 97 ∷ 50 ∷ 51 ∷ 52 ∷ 53 ∷ 54 ∷ 55 ∷ 56 ∷ 57 ∷ 48 ∷ 49 ∷ 50 ∷ 51 ∷ 52 ∷ 53 ∷ 122 ∷ 47 ∷ 48 ∷ 46 ∷ 97 ∷ 50 ∷ 51 ∷ 52 ∷ 53 ∷ 54 ∷ 55 ∷ 56 ∷ 57 ∷ 48 ∷ 49 ∷ 50 ∷ 51 ∷ 52 ∷ 53 ∷ 122 ∷ 46 ∷ []) 100 (accepted (1 ∷ 1 ∷ 8 ∷ 1 ∷ 9 ∷ 1 ∷ 10 ∷ 11 ∷ 256 ∷ 0 ∷ 0 ∷ [])) none
+    -- The request's number. v2.\nnu n1 -35.\npr p/1.\np(n1).\n
+    ∷ case (118 ∷ 50 ∷ 46 ∷ 10 ∷ 110 ∷ 117 ∷ 32 ∷ 110 ∷ 49 ∷ 32 ∷ 45 ∷ 51 ∷ 53 ∷ 46 ∷ 10 ∷ 112 ∷ 114 ∷ 32 ∷ 112 ∷ 47 ∷ 49 ∷ 46 ∷ 10 ∷ 112 ∷ 40 ∷ 110 ∷ 49 ∷ 41 ∷ 46 ∷ 10 ∷ []) 100 (accepted (2 ∷ 2 ∷ 8 ∷ 1 ∷ 12 ∷ 2 ∷ 13 ∷ 15 ∷ 512 ∷ 65501 ∷ 257 ∷ 0 ∷ 0 ∷ 1 ∷ 0 ∷ [])) none
+    -- Format 2 without numbers; spacing before and in `v2.`. \n v2 .fn a/0.
+    ∷ case (10 ∷ 32 ∷ 118 ∷ 50 ∷ 32 ∷ 46 ∷ 102 ∷ 110 ∷ 32 ∷ 97 ∷ 47 ∷ 48 ∷ 46 ∷ []) 100 (accepted (2 ∷ 1 ∷ 8 ∷ 0 ∷ 10 ∷ 0 ∷ 10 ∷ 10 ∷ 0 ∷ 0 ∷ [])) none
+    -- The greatest and the least value, 0 and 16, and no space where none is needed. v2.nu a-32768.nu b 32767.nu c 0.nu d 16.
+    ∷ case (118 ∷ 50 ∷ 46 ∷ 110 ∷ 117 ∷ 32 ∷ 97 ∷ 45 ∷ 51 ∷ 50 ∷ 55 ∷ 54 ∷ 56 ∷ 46 ∷ 110 ∷ 117 ∷ 32 ∷ 98 ∷ 32 ∷ 51 ∷ 50 ∷ 55 ∷ 54 ∷ 55 ∷ 46 ∷ 110 ∷ 117 ∷ 32 ∷ 99 ∷ 32 ∷ 48 ∷ 46 ∷ 110 ∷ 117 ∷ 32 ∷ 100 ∷ 32 ∷ 49 ∷ 54 ∷ 46 ∷ []) 100 (accepted (2 ∷ 4 ∷ 8 ∷ 0 ∷ 16 ∷ 0 ∷ 16 ∷ 16 ∷ 512 ∷ 32768 ∷ 512 ∷ 32767 ∷ 512 ∷ 0 ∷ 512 ∷ 16 ∷ [])) none
+    -- Among other declarations, in any order. v2.fn f/1.nu n-1.pr p/2.nu m 5.p(f(n),m).
+    ∷ case (118 ∷ 50 ∷ 46 ∷ 102 ∷ 110 ∷ 32 ∷ 102 ∷ 47 ∷ 49 ∷ 46 ∷ 110 ∷ 117 ∷ 32 ∷ 110 ∷ 45 ∷ 49 ∷ 46 ∷ 112 ∷ 114 ∷ 32 ∷ 112 ∷ 47 ∷ 50 ∷ 46 ∷ 110 ∷ 117 ∷ 32 ∷ 109 ∷ 32 ∷ 53 ∷ 46 ∷ 112 ∷ 40 ∷ 102 ∷ 40 ∷ 110 ∷ 41 ∷ 44 ∷ 109 ∷ 41 ∷ 46 ∷ []) 100 (accepted (2 ∷ 4 ∷ 8 ∷ 1 ∷ 16 ∷ 4 ∷ 17 ∷ 21 ∷ 1 ∷ 0 ∷ 512 ∷ 65535 ∷ 258 ∷ 0 ∷ 512 ∷ 5 ∷ 0 ∷ 2 ∷ 0 ∷ 1 ∷ 3 ∷ [])) none
+    -- After a name of 16 bytes a digit begins the number. v2.nu abcdefghijklmnop5.
+    ∷ case (118 ∷ 50 ∷ 46 ∷ 110 ∷ 117 ∷ 32 ∷ 97 ∷ 98 ∷ 99 ∷ 100 ∷ 101 ∷ 102 ∷ 103 ∷ 104 ∷ 105 ∷ 106 ∷ 107 ∷ 108 ∷ 109 ∷ 110 ∷ 111 ∷ 112 ∷ 53 ∷ 46 ∷ []) 100 (accepted (2 ∷ 1 ∷ 8 ∷ 0 ∷ 10 ∷ 0 ∷ 10 ∷ 10 ∷ 512 ∷ 5 ∷ [])) none
+    -- `nu` and `v2` are names. v2.fn nu/0.nu v2 7.pr p/2.p(nu,v2).
+    ∷ case (118 ∷ 50 ∷ 46 ∷ 102 ∷ 110 ∷ 32 ∷ 110 ∷ 117 ∷ 47 ∷ 48 ∷ 46 ∷ 110 ∷ 117 ∷ 32 ∷ 118 ∷ 50 ∷ 32 ∷ 55 ∷ 46 ∷ 112 ∷ 114 ∷ 32 ∷ 112 ∷ 47 ∷ 50 ∷ 46 ∷ 112 ∷ 40 ∷ 110 ∷ 117 ∷ 44 ∷ 118 ∷ 50 ∷ 41 ∷ 46 ∷ []) 100 (accepted (2 ∷ 3 ∷ 8 ∷ 1 ∷ 14 ∷ 3 ∷ 15 ∷ 18 ∷ 0 ∷ 0 ∷ 512 ∷ 7 ∷ 258 ∷ 0 ∷ 0 ∷ 2 ∷ 0 ∷ 1 ∷ [])) none
+    -- So they are in format 1. pr nu/1.fn v2/0.nu(v2).
+    ∷ case (112 ∷ 114 ∷ 32 ∷ 110 ∷ 117 ∷ 47 ∷ 49 ∷ 46 ∷ 102 ∷ 110 ∷ 32 ∷ 118 ∷ 50 ∷ 47 ∷ 48 ∷ 46 ∷ 110 ∷ 117 ∷ 40 ∷ 118 ∷ 50 ∷ 41 ∷ 46 ∷ []) 100 (accepted (1 ∷ 2 ∷ 8 ∷ 1 ∷ 10 ∷ 2 ∷ 11 ∷ 13 ∷ 257 ∷ 0 ∷ 0 ∷ 0 ∷ 1 ∷ [])) none
+    -- `v2.` after the first item is a clause. pr v2/0.v2.
+    ∷ case (112 ∷ 114 ∷ 32 ∷ 118 ∷ 50 ∷ 47 ∷ 48 ∷ 46 ∷ 118 ∷ 50 ∷ 46 ∷ []) 100 (accepted (1 ∷ 1 ∷ 8 ∷ 1 ∷ 9 ∷ 1 ∷ 10 ∷ 11 ∷ 256 ∷ 0 ∷ 0 ∷ [])) none
+    -- Also in format 2. v2.pr v2/0.v2.
+    ∷ case (118 ∷ 50 ∷ 46 ∷ 112 ∷ 114 ∷ 32 ∷ 118 ∷ 50 ∷ 47 ∷ 48 ∷ 46 ∷ 118 ∷ 50 ∷ 46 ∷ []) 100 (accepted (2 ∷ 1 ∷ 8 ∷ 1 ∷ 10 ∷ 1 ∷ 11 ∷ 12 ∷ 256 ∷ 0 ∷ 0 ∷ 0 ∷ [])) none
     ∷ []
 
 -- Texts that are refused.
@@ -115,6 +133,62 @@ refusals =
     ∷ case (112 ∷ 114 ∷ 32 ∷ 112 ∷ 47 ∷ 49 ∷ 46 ∷ 112 ∷ 40 ∷ 95 ∷ 49 ∷ 48 ∷ 50 ∷ 51 ∷ 41 ∷ 46 ∷ []) 100 (refused bad_clause) none
     -- 10 goes before 11. p
     ∷ case (112 ∷ []) 0 (refused bad_text) (some 1)
+    -- No `-0`. v2.nu a-0.
+    ∷ case (118 ∷ 50 ∷ 46 ∷ 110 ∷ 117 ∷ 32 ∷ 97 ∷ 45 ∷ 48 ∷ 46 ∷ []) 100 (refused bad_text) (some 7)
+    -- A leading zero in a value: `0`, and `5` where the dot is due. v2.nu a 05.
+    ∷ case (118 ∷ 50 ∷ 46 ∷ 110 ∷ 117 ∷ 32 ∷ 97 ∷ 32 ∷ 48 ∷ 53 ∷ 46 ∷ []) 100 (refused bad_text) (some 9)
+    -- A leading zero after the sign: `-0` is no token. v2.nu a -05.
+    ∷ case (118 ∷ 50 ∷ 46 ∷ 110 ∷ 117 ∷ 32 ∷ 97 ∷ 32 ∷ 45 ∷ 48 ∷ 53 ∷ 46 ∷ []) 100 (refused bad_text) (some 8)
+    -- A sign by itself. v2.nu a - 5.
+    ∷ case (118 ∷ 50 ∷ 46 ∷ 110 ∷ 117 ∷ 32 ∷ 97 ∷ 32 ∷ 45 ∷ 32 ∷ 53 ∷ 46 ∷ []) 100 (refused bad_text) (some 8)
+    -- No `+`. v2.nu a +5.
+    ∷ case (118 ∷ 50 ∷ 46 ∷ 110 ∷ 117 ∷ 32 ∷ 97 ∷ 32 ∷ 43 ∷ 53 ∷ 46 ∷ []) 100 (refused bad_text) (some 8)
+    -- One more than the greatest value. v2.nu a 32768.
+    ∷ case (118 ∷ 50 ∷ 46 ∷ 110 ∷ 117 ∷ 32 ∷ 97 ∷ 32 ∷ 51 ∷ 50 ∷ 55 ∷ 54 ∷ 56 ∷ 46 ∷ []) 100 (refused bad_text) (some 8)
+    -- One less than the least. v2.nu a -32769.
+    ∷ case (118 ∷ 50 ∷ 46 ∷ 110 ∷ 117 ∷ 32 ∷ 97 ∷ 32 ∷ 45 ∷ 51 ∷ 50 ∷ 55 ∷ 54 ∷ 57 ∷ 46 ∷ []) 100 (refused bad_text) (some 8)
+    -- A value of 17 bits. v2.nu a 98304.
+    ∷ case (118 ∷ 50 ∷ 46 ∷ 110 ∷ 117 ∷ 32 ∷ 97 ∷ 32 ∷ 57 ∷ 56 ∷ 51 ∷ 48 ∷ 52 ∷ 46 ∷ []) 100 (refused bad_text) (some 8)
+    -- The same, negative. v2.nu a -65537.
+    ∷ case (118 ∷ 50 ∷ 46 ∷ 110 ∷ 117 ∷ 32 ∷ 97 ∷ 32 ∷ 45 ∷ 54 ∷ 53 ∷ 53 ∷ 51 ∷ 55 ∷ 46 ∷ []) 100 (refused bad_text) (some 8)
+    -- A number in format 1. nu n1 -35.
+    ∷ case (110 ∷ 117 ∷ 32 ∷ 110 ∷ 49 ∷ 32 ∷ 45 ∷ 51 ∷ 53 ∷ 46 ∷ []) 100 (refused bad_text) (some 3)
+    -- `v2.` after a declaration is a clause. fn a/0.v2.nu n1 5.
+    ∷ case (102 ∷ 110 ∷ 32 ∷ 97 ∷ 47 ∷ 48 ∷ 46 ∷ 118 ∷ 50 ∷ 46 ∷ 110 ∷ 117 ∷ 32 ∷ 110 ∷ 49 ∷ 32 ∷ 53 ∷ 46 ∷ []) 100 (refused bad_text) (some 13)
+    -- So is a second `v2.` v2.v2.nu n1 5.
+    ∷ case (118 ∷ 50 ∷ 46 ∷ 118 ∷ 50 ∷ 46 ∷ 110 ∷ 117 ∷ 32 ∷ 110 ∷ 49 ∷ 32 ∷ 53 ∷ 46 ∷ []) 100 (refused bad_text) (some 9)
+    -- It is about a predicate of that name, which is not declared. pr p/0.v2.
+    ∷ case (112 ∷ 114 ∷ 32 ∷ 112 ∷ 47 ∷ 48 ∷ 46 ∷ 118 ∷ 50 ∷ 46 ∷ []) 100 (refused bad_text) (some 7)
+    -- `v2` without a dot. v2 fn a/0.
+    ∷ case (118 ∷ 50 ∷ 32 ∷ 102 ∷ 110 ∷ 32 ∷ 97 ∷ 47 ∷ 48 ∷ 46 ∷ []) 100 (refused bad_text) (some 3)
+    -- A number has no arity. v2.nu a/5.
+    ∷ case (118 ∷ 50 ∷ 46 ∷ 110 ∷ 117 ∷ 32 ∷ 97 ∷ 47 ∷ 53 ∷ 46 ∷ []) 100 (refused bad_text) (some 7)
+    -- A number without a value. v2.nu a.
+    ∷ case (118 ∷ 50 ∷ 46 ∷ 110 ∷ 117 ∷ 32 ∷ 97 ∷ 46 ∷ []) 100 (refused bad_text) (some 7)
+    -- In clauses numbers stand by name. v2.pr p/1.p(5).
+    ∷ case (118 ∷ 50 ∷ 46 ∷ 112 ∷ 114 ∷ 32 ∷ 112 ∷ 47 ∷ 49 ∷ 46 ∷ 112 ∷ 40 ∷ 53 ∷ 41 ∷ 46 ∷ []) 100 (refused bad_text) (some 12)
+    -- Also negative ones. v2.pr p/1.p(-35).
+    ∷ case (118 ∷ 50 ∷ 46 ∷ 112 ∷ 114 ∷ 32 ∷ 112 ∷ 47 ∷ 49 ∷ 46 ∷ 112 ∷ 40 ∷ 45 ∷ 51 ∷ 53 ∷ 41 ∷ 46 ∷ []) 100 (refused bad_text) (some 12)
+    -- A number declared after a clause. v2.pr p/0.p.nu a 5.
+    ∷ case (118 ∷ 50 ∷ 46 ∷ 112 ∷ 114 ∷ 32 ∷ 112 ∷ 47 ∷ 48 ∷ 46 ∷ 112 ∷ 46 ∷ 110 ∷ 117 ∷ 32 ∷ 97 ∷ 32 ∷ 53 ∷ 46 ∷ []) 100 (refused bad_text) (some 15)
+    -- An arity is no value. v2.fn a/-3.
+    ∷ case (118 ∷ 50 ∷ 46 ∷ 102 ∷ 110 ∷ 32 ∷ 97 ∷ 47 ∷ 45 ∷ 51 ∷ 46 ∷ []) 100 (refused bad_text) (some 8)
+    -- An arity over 15 is a value. v2.fn a/16.
+    ∷ case (118 ∷ 50 ∷ 46 ∷ 102 ∷ 110 ∷ 32 ∷ 97 ∷ 47 ∷ 49 ∷ 54 ∷ 46 ∷ []) 100 (refused bad_text) (some 8)
+    -- A name declared twice, once as a number. v2.nu a 5.fn a/0.
+    ∷ case (118 ∷ 50 ∷ 46 ∷ 110 ∷ 117 ∷ 32 ∷ 97 ∷ 32 ∷ 53 ∷ 46 ∷ 102 ∷ 110 ∷ 32 ∷ 97 ∷ 47 ∷ 48 ∷ 46 ∷ []) 100 (refused bad_text) (some 13)
+    -- A number with arguments. v2.nu a 5.pr p/1.p(a(_0)).
+    ∷ case (118 ∷ 50 ∷ 46 ∷ 110 ∷ 117 ∷ 32 ∷ 97 ∷ 32 ∷ 53 ∷ 46 ∷ 112 ∷ 114 ∷ 32 ∷ 112 ∷ 47 ∷ 49 ∷ 46 ∷ 112 ∷ 40 ∷ 97 ∷ 40 ∷ 95 ∷ 48 ∷ 41 ∷ 41 ∷ 46 ∷ []) 100 (refused bad_text) (some 19)
+    -- `nu` is a name in format 1, and not declared here. nu.
+    ∷ case (110 ∷ 117 ∷ 46 ∷ []) 100 (refused bad_text) (some 0)
+    -- Two numbers of equal values. v2.nu a 5.nu b 5.
+    ∷ case (118 ∷ 50 ∷ 46 ∷ 110 ∷ 117 ∷ 32 ∷ 97 ∷ 32 ∷ 53 ∷ 46 ∷ 110 ∷ 117 ∷ 32 ∷ 98 ∷ 32 ∷ 53 ∷ 46 ∷ []) 100 (refused bad_symbol) none
+    -- A number in a literal's place. v2.nu a 5.a.
+    ∷ case (118 ∷ 50 ∷ 46 ∷ 110 ∷ 117 ∷ 32 ∷ 97 ∷ 32 ∷ 53 ∷ 46 ∷ 97 ∷ 46 ∷ []) 100 (refused bad_clause) none
+    -- Format 2 without a symbol. v2.
+    ∷ case (118 ∷ 50 ∷ 46 ∷ []) 100 (refused bad_header) none
+    -- It takes two words a symbol. v2.fn a/0.
+    ∷ case (118 ∷ 50 ∷ 46 ∷ 102 ∷ 110 ∷ 32 ∷ 97 ∷ 47 ∷ 48 ∷ 46 ∷ []) 9 (refused no_room) none
     ∷ []
 
 pub texts-read : map (λ c. read_text c.text c.room) read ≡ map (λ c. c.expected) read
@@ -174,3 +248,25 @@ not_written = refl
 pub read_again : read_text text_l 29 ≡ accepted deck_l
 unfolding rules
 read_again = refl
+
+-- A deck of format 2, both ways: `v2.`, the lines `nu s0 -35.`, `fn s1/0.`, `pr s2/1.`, `nu s3 0.`, `nu s4 32767.` and `nu s5 -32768.`, `s2(s0).` and `s2(s3).`
+abbrev pub deck_n : List ℕ
+deck_n = 2 ∷ 6 ∷ 8 ∷ 2 ∷ 20 ∷ 4 ∷ 22 ∷ 26 ∷ 512 ∷ 65501 ∷ 0 ∷ 0 ∷ 257 ∷ 0 ∷ 512 ∷ 0 ∷ 512 ∷ 32767 ∷ 512 ∷ 32768 ∷ 0 ∷ 2 ∷ 2 ∷ 0 ∷ 2 ∷ 3 ∷ []
+
+abbrev pub text_n : List ℕ
+text_n =
+    118 ∷ 50 ∷ 46 ∷ 10 ∷ 110 ∷ 117 ∷ 32 ∷ 115 ∷ 48 ∷ 32 ∷ 45 ∷ 51 ∷ 53 ∷ 46 ∷ 10
+    ∷ 102 ∷ 110 ∷ 32 ∷ 115 ∷ 49 ∷ 47 ∷ 48 ∷ 46 ∷ 10 ∷ 112 ∷ 114 ∷ 32 ∷ 115 ∷ 50 ∷ 47 ∷ 49 ∷ 46 ∷ 10 ∷ 110 ∷ 117 ∷ 32 ∷ 115 ∷ 51 ∷ 32 ∷ 48 ∷ 46 ∷ 10
+    ∷ 110 ∷ 117 ∷ 32 ∷ 115 ∷ 52 ∷ 32 ∷ 51 ∷ 50 ∷ 55 ∷ 54 ∷ 55 ∷ 46 ∷ 10 ∷ 110 ∷ 117 ∷ 32 ∷ 115 ∷ 53 ∷ 32 ∷ 45 ∷ 51 ∷ 50 ∷ 55 ∷ 54 ∷ 56 ∷ 46 ∷ 10 ∷ 115 ∷ 50 ∷ 40 ∷ 115 ∷ 48 ∷ 41 ∷ 46 ∷ 10 ∷ 115 ∷ 50 ∷ 40 ∷ 115 ∷ 51 ∷ 41 ∷ 46 ∷ 10 ∷ []
+
+pub written-numbers : write_text deck_n 85 ≡ accepted text_n
+unfolding rules
+written-numbers = refl
+
+pub numbers-not_written : write_text deck_n 84 ≡ refused no_room
+unfolding rules
+numbers-not_written = refl
+
+pub numbers-again : read_text text_n 26 ≡ accepted deck_n
+unfolding rules
+numbers-again = refl

@@ -6,11 +6,14 @@ use mathlib.Core.Option.{none, some, none-ne-some}
 use mathlib.Core.List.{List, [], ◌∷◌}
 use native.Mathlib.Omega.{arith}
 use mathlib.Core.Logic.{◌↔◌}
-use lib.ListN.{length}
+use lib.ListN.{length, drop}
 use lib.Dec.{eqb}
 use borrow.Author.Tests.{eqb-true}
-use Rattle.text_rules.specs.TextTokens.{Kind, name, number, variable, implies, slash, dot, opening, closing, comma, tilde, ending, space, kind_number, class_of, is_class, Token, token_from, tokens}
-use Rattle.text_rules.specs.TextGrammar.{is, is_key, Part, head, body, State, item, keyed, declared, slashed, counted, clause, literal, negated, finished, term, named, after, Follow, ◌⇒◌, after_term, after_name, follows, next, unread}
+use Rattle.text_rules.specs.TextTokens.{Kind, name, number, amount, variable, implies, slash, dot, opening, closing, comma, tilde, ending, space, kind_number, class_of, is_class, Token, token_from, tokens}
+use Rattle.text_rules.specs.TextGrammar.{same_bytes, fn_text, pr_text, nu_text, is, is_key, is_number_key, is_v2, is_value, Part, head, body, State, item, keyed, declared, slashed, counted, number_keyed, number_declared, clause, literal, negated, finished, term, named, after, Follow, ◌⇒◌, after_term, after_name, item_follows, follows, next, unread}
+use Rattle.text_rules.specs.TextWords.{begins_v2, items}
+use Rattle.text_rules.specs.Text.{numbers_in, text_items, text_unread}
+use Rattle.text_rules.proofs.TextScan.{same_bytes_lem}
 
 -- `TermOf ts us`: ts are the tokens of a term and then us. A term is a variable, or a name and its arguments.
 mutual
@@ -43,12 +46,19 @@ pub data ClausesOf : List Token → Type 0 where
       {t u : Token} {ts us vs : List Token} → is name t ≡ true → ArgumentsOf ts (u ∷ us) → is implies u ≡ true → LiteralsOf us vs → ClausesOf vs
       → ClausesOf (t ∷ ts)
 
--- The declarations and then the clauses.
-pub data TextOf : List Token → Type 0 where
-  clauses : {ts : List Token} → ClausesOf ts → TextOf ts
+-- The declarations and then the clauses; numbers are declared in format 2 alone.
+pub data ItemsOf : Bool → List Token → Type 0 where
+  clauses : {numbers : Bool} {ts : List Token} → ClausesOf ts → ItemsOf numbers ts
   declaration :
-      {key n s k d : Token} {ts : List Token} → is_key key ≡ true → is name n ≡ true → is slash s ≡ true → is number k ≡ true → is dot d ≡ true
-      → TextOf ts → TextOf (key ∷ n ∷ s ∷ k ∷ d ∷ ts)
+      {numbers : Bool} {key n s k d : Token} {ts : List Token} → is_key key ≡ true → is name n ≡ true → is slash s ≡ true → is number k ≡ true → is dot d ≡ true
+      → ItemsOf numbers ts → ItemsOf numbers (key ∷ n ∷ s ∷ k ∷ d ∷ ts)
+  number_declaration :
+      {key n v d : Token} {ts : List Token} → is_number_key key ≡ true → is name n ≡ true → is_value v ≡ true → is dot d ≡ true → ItemsOf true ts
+      → ItemsOf true (key ∷ n ∷ v ∷ d ∷ ts)
+
+-- `v2.` stands in front of them in format 2.
+abbrev pub TextOf : List Token → Type 0
+TextOf ts = ItemsOf (begins_v2 ts) (items ts)
 
 -- Kinds exclude each other.
 other-kind : (k l : Kind) (t : Token) → is k t ≡ true → eqb (kind_number l) (kind_number k) ≡ false → is l t ≡ false
@@ -193,63 +203,117 @@ no_key : (t : Token) → is name t ≡ false → is_key t ≡ false
 unfolding is_key
 no_key t e = rw e refl
 
+-- The keys exclude each other.
+number-name : (t : Token) → is_number_key t ≡ true → is name t ≡ true
+unfolding is_number_key
+number-name t e = ((and-eq-true_iff (is name t) _).0 e).0
+
+other-key : (t : Token) → is_number_key t ≡ true → is_key t ≡ false
+unfolding is_number_key is_key same_bytes fn_text pr_text nu_text
+other-key t e =
+    let w = (and-eq-true_iff (is name t) _).0 e in
+    rw (same_bytes_lem t.bytes nu_text w.1, w.0) refl
+
+no-number-key : (t : Token) → is name t ≡ false → is_number_key t ≡ false
+unfolding is_number_key
+no-number-key t e = rw e refl
+
 module _ (t : Token) (ts : List Token) where
-  on-key : is_key t ≡ true → unread item (t ∷ ts) ≡ unread keyed ts
+  on-key : (m : Bool) → is_key t ≡ true → unread (item m) (t ∷ ts) ≡ unread (keyed m) ts
   unfolding follows
-  on-key e = goes item keyed t ts (take-rule is_key keyed ((is name ⇒ named head 0) ∷ (is ending ⇒ finished) ∷ []) t e)
+  on-key false e = goes (item false) (keyed false) t ts (take-rule is_key (keyed false) item_follows t e)
+  on-key true e = goes (item true) (keyed true) t ts (take-rule is_key (keyed true) ((is_number_key ⇒ number_keyed) ∷ item_follows) t e)
 
-  no-key-here : is_key t ≡ false → unread item (t ∷ ts) ≡ unread clause (t ∷ ts)
+  on-number-key : is_number_key t ≡ true → unread (item true) (t ∷ ts) ≡ unread number_keyed ts
+  unfolding follows
+  on-number-key e =
+      goes (item true) number_keyed t ts
+      (leave-rule is_key (keyed true) ((is_number_key ⇒ number_keyed) ∷ item_follows) t (other-key t e) ∙ take-rule is_number_key number_keyed item_follows t e)
+
+  no-key-here : is_key t ≡ false → unread (item false) (t ∷ ts) ≡ unread clause (t ∷ ts)
   unfolding follows unread
-  no-key-here e = rw (leave-rule is_key keyed ((is name ⇒ named head 0) ∷ (is ending ⇒ finished) ∷ []) t e, unread)
+  no-key-here e = rw (leave-rule is_key (keyed false) item_follows t e, unread)
 
-  on-declared : is name t ≡ true → unread keyed (t ∷ ts) ≡ unread declared ts
-  unfolding follows
-  on-declared e = goes keyed declared t ts (take-rule (is name) declared (after_name head 0) t e)
-
-  no-name-here : is name t ≡ false → unread keyed (t ∷ ts) ≡ unread (named head 0) (t ∷ ts)
+  neither-key : is_key t ≡ false → is_number_key t ≡ false → unread (item true) (t ∷ ts) ≡ unread clause (t ∷ ts)
   unfolding follows unread
-  no-name-here e = rw (leave-rule (is name) declared (after_name head 0) t e, unread)
+  neither-key e f =
+      rw (leave-rule is_key (keyed true) ((is_number_key ⇒ number_keyed) ∷ item_follows) t e ∙ leave-rule is_number_key number_keyed item_follows t f, unread)
 
-  on-slash : is slash t ≡ true → unread declared (t ∷ ts) ≡ unread slashed ts
+  on-declared : (m : Bool) → is name t ≡ true → unread (keyed m) (t ∷ ts) ≡ unread (declared m) ts
   unfolding follows
-  on-slash e = goes declared slashed t ts (take-rule (is slash) slashed [] t e)
+  on-declared m e = goes (keyed m) (declared m) t ts (take-rule (is name) (declared m) (after_name head 0) t e)
 
-  on-number : is number t ≡ true → unread slashed (t ∷ ts) ≡ unread counted ts
-  unfolding follows
-  on-number e = goes slashed counted t ts (take-rule (is number) counted [] t e)
+  no-name-here : (m : Bool) → is name t ≡ false → unread (keyed m) (t ∷ ts) ≡ unread (named head 0) (t ∷ ts)
+  unfolding follows unread
+  no-name-here m e = rw (leave-rule (is name) (declared m) (after_name head 0) t e, unread)
 
-  on-end : is dot t ≡ true → unread counted (t ∷ ts) ≡ unread item ts
+  on-named-number : is name t ≡ true → unread number_keyed (t ∷ ts) ≡ unread number_declared ts
   unfolding follows
-  on-end e = goes counted item t ts (take-rule (is dot) item [] t e)
+  on-named-number e = goes number_keyed number_declared t ts (take-rule (is name) number_declared (after_name head 0) t e)
+
+  no-name-of-number : is name t ≡ false → unread number_keyed (t ∷ ts) ≡ unread (named head 0) (t ∷ ts)
+  unfolding follows unread
+  no-name-of-number e = rw (leave-rule (is name) number_declared (after_name head 0) t e, unread)
+
+  on-slash : (m : Bool) → is slash t ≡ true → unread (declared m) (t ∷ ts) ≡ unread (slashed m) ts
+  unfolding follows
+  on-slash m e = goes (declared m) (slashed m) t ts (take-rule (is slash) (slashed m) [] t e)
+
+  on-number : (m : Bool) → is number t ≡ true → unread (slashed m) (t ∷ ts) ≡ unread (counted m) ts
+  unfolding follows
+  on-number m e = goes (slashed m) (counted m) t ts (take-rule (is number) (counted m) [] t e)
+
+  pub on-value : is_value t ≡ true → unread number_declared (t ∷ ts) ≡ unread (counted true) ts
+  unfolding follows
+  on-value e = goes number_declared (counted true) t ts (take-rule is_value (counted true) [] t e)
+
+  on-end : (m : Bool) → is dot t ≡ true → unread (counted m) (t ∷ ts) ≡ unread (item m) ts
+  unfolding follows
+  on-end m e = goes (counted m) (item m) t ts (take-rule (is dot) (item m) [] t e)
 
 -- What follows a head's name is no name.
-after-head : {ts : List Token} {u : Token} {us : List Token} → ArgumentsOf ts (u ∷ us) → is name u ≡ false → unread keyed ts ≡ unread (named head 0) ts
-after-head (bare {ts = ts}) f = no-name-here _ _ f
-after-head (bracketed {t = t} {ts = ts} e a) f = no-name-here t ts (other-kind opening name t e refl)
+after-head :
+    (s : State) → ((t : Token) (ts : List Token) → is name t ≡ false → unread s (t ∷ ts) ≡ unread (named head 0) (t ∷ ts))
+    → {ts : List Token} {u : Token} {us : List Token} → ArgumentsOf ts (u ∷ us) → is name u ≡ false → unread s ts ≡ unread (named head 0) ts
+after-head s h (bare {ts = ts}) f = h _ _ f
+after-head s h (bracketed {t = t} {ts = ts} e a) f = h t ts (other-kind opening name t e refl)
 
 first-name :
-    {ts us : List Token} {u : Token} (t : Token) → is name t ≡ true → ArgumentsOf ts (u ∷ us) → is name u ≡ false → unread item (t ∷ ts) ≡ unread clause (t ∷ ts)
-first-name {ts = ts} t e a f = go (is_key t) refl
+    (m : Bool) {ts us : List Token} {u : Token} (t : Token) → is name t ≡ true → ArgumentsOf ts (u ∷ us) → is name u ≡ false
+    → unread (item m) (t ∷ ts) ≡ unread clause (t ∷ ts)
+first-name m {ts = ts} t e a f = go m (is_key t) (is_number_key t) refl refl
   where
-    go : (b : Bool) → is_key t ≡ b → unread item (t ∷ ts) ≡ unread clause (t ∷ ts)
-    go true q = on-key t ts q ∙ after-head a f ∙ sym (on-head t ts e)
-    go false q = no-key-here t ts q
+    go : (m k l : Bool) → is_key t ≡ k → is_number_key t ≡ l → unread (item m) (t ∷ ts) ≡ unread clause (t ∷ ts)
+    go m true l q r = on-key t ts m q ∙ after-head (keyed m) (λ t ts e. no-name-here t ts m e) a f ∙ sym (on-head t ts e)
+    go false false l q r = no-key-here t ts q
+    go true false true q r = on-number-key t ts r ∙ after-head number_keyed (λ t ts e. no-name-of-number t ts e) a f ∙ sym (on-head t ts e)
+    go true false false q r = neither-key t ts q r
 
-first-clause : {ts : List Token} → ClausesOf ts → unread item ts ≡ unread clause ts
-first-clause (no_clause {t = t} e) = no-key-here t [] (no_key t (other-kind ending name t e refl))
-first-clause (fact {t = t} {u = u} e a f b) = first-name t e a (other-kind dot name u f refl)
-first-clause (rule {t = t} {u = u} e a f b c) = first-name t e a (other-kind implies name u f refl)
+no-name : (m : Bool) (t : Token) (ts : List Token) → is name t ≡ false → unread (item m) (t ∷ ts) ≡ unread clause (t ∷ ts)
+no-name false t ts e = no-key-here t ts (no_key t e)
+no-name true t ts e = neither-key t ts (no_key t e) (no-number-key t e)
+
+first-clause : (m : Bool) {ts : List Token} → ClausesOf ts → unread (item m) ts ≡ unread clause ts
+first-clause m (no_clause {t = t} e) = no-name m t [] (other-kind ending name t e refl)
+first-clause m (fact {t = t} {u = u} e a f b) = first-name m t e a (other-kind dot name u f refl)
+first-clause m (rule {t = t} {u = u} e a f b c) = first-name m t e a (other-kind implies name u f refl)
 
 -- EVERY TEXT OF THE GRAMMAR IS READ.
-pub text-taken : {ts : List Token} → TextOf ts → unread item ts ≡ none
-text-taken (clauses c) = first-clause c ∙ take-clauses c
-text-taken (declaration {key = key} {n = n} {s = s} {k = k} {d = d} {ts = ts} a b c e f r) =
-    on-key key (n ∷ s ∷ k ∷ d ∷ ts) a
-    ∙ on-declared n (s ∷ k ∷ d ∷ ts) b
-    ∙ on-slash s (k ∷ d ∷ ts) c
-    ∙ on-number k (d ∷ ts) e
-    ∙ on-end d ts f
-    ∙ text-taken r
+pub items-taken : {m : Bool} {ts : List Token} → ItemsOf m ts → unread (item m) ts ≡ none
+items-taken {m} (clauses c) = first-clause m c ∙ take-clauses c
+items-taken {m} (declaration {key = key} {n = n} {s = s} {k = k} {d = d} {ts = ts} a b c e f r) =
+    on-key key (n ∷ s ∷ k ∷ d ∷ ts) m a
+    ∙ on-declared n (s ∷ k ∷ d ∷ ts) m b
+    ∙ on-slash s (k ∷ d ∷ ts) m c
+    ∙ on-number k (d ∷ ts) m e
+    ∙ on-end d ts m f
+    ∙ items-taken r
+items-taken (number_declaration {key = key} {n = n} {v = v} {d = d} {ts = ts} a b c f r) =
+    on-number-key key (n ∷ v ∷ d ∷ ts) a
+    ∙ on-named-number n (v ∷ d ∷ ts) b
+    ∙ on-value v (d ∷ ts) c
+    ∙ on-end d ts true f
+    ∙ items-taken r
 
 -- The other way round: what is read is of the grammar. A list of tokens that ends with the end.
 abbrev pub Ended : List Token → Type 0
@@ -415,41 +479,79 @@ clauses-found : (ts : List Token) → Ended ts → unread clause ts ≡ none →
 clauses-found ts e r = find-clauses (length ts) ts (omega arith) e r
 
 -- A state with one rule.
+abbrev Steps : (Token → Bool) → State → List Token → Type 0
+Steps f u ts = (t : Token) × (us : List Token) × (ts ≡ t ∷ us) × (f t ≡ true) × Ended us × (unread u us ≡ none)
+
 one-step :
-    (k : Kind) (s u : State) (ts : List Token) → follows s ≡ (is k ⇒ u) ∷ [] → eqb 1 (kind_number k) ≡ false → Ended ts → unread s ts ≡ none
-    → (t : Token) × (us : List Token) × (ts ≡ t ∷ us) × (is k t ≡ true) × Ended us × (unread u us ≡ none)
-one-step k s u [] f g e r = absurd e
-one-step k s u (t ∷ ts) f g e r = go (is k t) refl
+    (f : Token → Bool) (s u : State) (ts : List Token) → follows s ≡ (f ⇒ u) ∷ [] → ((t : Token) → f t ≡ true → is ending t ≡ false) → Ended ts → unread s ts ≡ none
+    → Steps f u ts
+one-step f s u [] e g w r = absurd w
+one-step f s u (t ∷ ts) e g w r = go (f t) refl
   where
-    go : (b : Bool) → is k t ≡ b → (v : Token) × (us : List Token) × (t ∷ ts ≡ v ∷ us) × (is k v ≡ true) × Ended us × (unread u us ≡ none)
-    go true q =
-        (t, ts, refl, q, ended-rest t ts e (other-kind k ending t q g), sym (goes s u t ts (ap (λ fs. next fs t) f ∙ take-rule (is k) u [] t q)) ∙ r)
-    go false q = absurd (stops s t ts (ap (λ fs. next fs t) f ∙ not-of-one (is k) u t q) r)
+    go : (b : Bool) → f t ≡ b → Steps f u (t ∷ ts)
+    go true q = (t, ts, refl, q, ended-rest t ts w (g t q), sym (goes s u t ts (ap (λ fs. next fs t) e ∙ take-rule f u [] t q)) ∙ r)
+    go false q = absurd (stops s t ts (ap (λ fs. next fs t) e ∙ not-of-one f u t q) r)
 
-find-text : (n : ℕ) (ts : List Token) → length ts ≤ n → Ended ts → unread item ts ≡ none → TextOf ts
+value-goes-on : (t : Token) → is_value t ≡ true → is ending t ≡ false
+unfolding is_value
+value-goes-on t e = go (is number t) refl
+  where
+    go : (b : Bool) → is number t ≡ b → is ending t ≡ false
+    go true q = other-kind number ending t q refl
+    go false q = other-kind amount ending t (rw q at e) refl
+
+-- A declaration, of which the key and the name are read.
+find-symbol :
+    (m : Bool) (key n : Token) (us : List Token) → is_key key ≡ true → is name n ≡ true → Ended us → unread (declared m) us ≡ none
+    → ((vs : List Token) → length vs ≤ length us → Ended vs → unread (item m) vs ≡ none → ItemsOf m vs) → ItemsOf m (key ∷ n ∷ us)
 unfolding follows
-find-text zero ts h e r = empty ts h e
-find-text (suc n) [] h e r = absurd e
-find-text (suc n) (t ∷ ts) h e r = go (is_key t) refl (λ us l w q. find-text n us (omega arith) w q)
-  where
-    named-next :
-        is_key t ≡ true → (ts : List Token) → Ended (t ∷ ts) → Ended ts → unread keyed ts ≡ none
-        → ((vs : List Token) → length vs ≤ length ts → Ended vs → unread item vs ≡ none → TextOf vs) → TextOf (t ∷ ts)
-    named-next q [] e w r f = absurd w
-    named-next q (u ∷ us) e w r f = go (is name u) refl
-      where
-        go : (b : Bool) → is name u ≡ b → TextOf (t ∷ u ∷ us)
-        go true z =
-            let a = one-step slash declared slashed us refl refl (ended-rest u us w (other-kind name ending u z refl)) (sym (on-declared u us z) ∙ r) in
-            let b = one-step number slashed counted a.1 refl refl a.4 a.5 in
-            let c = one-step dot counted item b.1 refl refl b.4 b.5 in
-            let all : us ≡ a.0 ∷ b.0 ∷ c.0 ∷ c.1 = a.2 ∙ ap {B = List Token} (a.0 ∷◌) (b.2 ∙ ap {B = List Token} (b.0 ∷◌) c.2) in
-            subst (λ x. TextOf (t ∷ u ∷ x)) (sym all) (declaration q z a.3 b.3 c.3 (f c.1 (omega (arith, ap length all)) c.4 c.5))
-        go false z = clauses (clauses-found (t ∷ u ∷ us) e (on-head t (u ∷ us) (key-name t q) ∙ sym (no-name-here u us z) ∙ r))
+find-symbol m key n us q z e r f =
+    let a = one-step (is slash) (declared m) (slashed m) us refl (λ t h. other-kind slash ending t h refl) e r in
+    let b = one-step (is number) (slashed m) (counted m) a.1 refl (λ t h. other-kind number ending t h refl) a.4 a.5 in
+    let c = one-step (is dot) (counted m) (item m) b.1 refl (λ t h. other-kind dot ending t h refl) b.4 b.5 in
+    let all : us ≡ a.0 ∷ b.0 ∷ c.0 ∷ c.1 = a.2 ∙ ap {B = List Token} (a.0 ∷◌) (b.2 ∙ ap {B = List Token} (b.0 ∷◌) c.2) in
+    subst (λ x. ItemsOf m (key ∷ n ∷ x)) (sym all) (declaration q z a.3 b.3 c.3 (f c.1 (omega (arith, ap length all)) c.4 c.5))
 
-    go : (b : Bool) → is_key t ≡ b → ((vs : List Token) → length vs ≤ length ts → Ended vs → unread item vs ≡ none → TextOf vs) → TextOf (t ∷ ts)
-    go true q f = named-next q ts e (ended-rest t ts e (other-kind name ending t (key-name t q) refl)) (sym (on-key t ts q) ∙ r) f
-    go false q f = clauses (clauses-found (t ∷ ts) e (sym (no-key-here t ts q) ∙ r))
+find-number :
+    (key n : Token) (us : List Token) → is_number_key key ≡ true → is name n ≡ true → Ended us → unread number_declared us ≡ none
+    → ((vs : List Token) → length vs ≤ length us → Ended vs → unread (item true) vs ≡ none → ItemsOf true vs) → ItemsOf true (key ∷ n ∷ us)
+unfolding follows
+find-number key n us q z e r f =
+    let a = one-step is_value number_declared (counted true) us refl value-goes-on e r in
+    let b = one-step (is dot) (counted true) (item true) a.1 refl (λ t h. other-kind dot ending t h refl) a.4 a.5 in
+    let all : us ≡ a.0 ∷ b.0 ∷ b.1 = a.2 ∙ ap {B = List Token} (a.0 ∷◌) b.2 in
+    subst (λ x. ItemsOf true (key ∷ n ∷ x)) (sym all) (number_declaration q z a.3 b.3 (f b.1 (omega (arith, ap length all)) b.4 b.5))
+
+-- The tokens after a key: a name, or the rest of a clause.
+after-key :
+    (m : Bool) (s u : State) (t : Token) (ts : List Token) → is name t ≡ true → Ended (t ∷ ts)
+    → ((n : Token) (us : List Token) → is name n ≡ true → unread s (n ∷ us) ≡ unread u us)
+    → ((n : Token) (us : List Token) → is name n ≡ false → unread s (n ∷ us) ≡ unread (named head 0) (n ∷ us)) → unread s ts ≡ none
+    → ((n : Token) (us : List Token) → ts ≡ n ∷ us → is name n ≡ true → Ended us → unread u us ≡ none → ItemsOf m (t ∷ n ∷ us)) → ItemsOf m (t ∷ ts)
+after-key m s u t [] z e on off r f = absurd (not-both (is ending t) e (other-kind name ending t z refl))
+after-key m s u t (n ∷ us) z e on off r f = go (is name n) refl
+  where
+    go : (b : Bool) → is name n ≡ b → ItemsOf m (t ∷ n ∷ us)
+    go true q = f n us refl q (ended-rest n us e (other-kind name ending n q refl)) (sym (on n us q) ∙ r)
+    go false q = clauses (clauses-found (t ∷ n ∷ us) e (on-head t (n ∷ us) z ∙ sym (off n us q) ∙ r))
+
+find-items : (n : ℕ) (m : Bool) (ts : List Token) → length ts ≤ n → Ended ts → unread (item m) ts ≡ none → ItemsOf m ts
+find-items zero m ts h e r = empty ts h e
+find-items (suc n) m [] h e r = absurd e
+find-items (suc n) m (t ∷ ts) h e r = go m (is_key t) (is_number_key t) refl refl (λ vs l w q. find-items n m vs (omega arith) w q) r
+  where
+    More : Bool → Type 0
+    More m = (vs : List Token) → length vs ≤ length ts → Ended vs → unread (item m) vs ≡ none → ItemsOf m vs
+
+    go : (m k l : Bool) → is_key t ≡ k → is_number_key t ≡ l → More m → unread (item m) (t ∷ ts) ≡ none → ItemsOf m (t ∷ ts)
+    go m true l q z f r =
+        after-key m (keyed m) (declared m) t ts (key-name t q) e (λ n us p. on-declared n us m p) (λ n us p. no-name-here n us m p) (sym (on-key t ts m q) ∙ r)
+        (λ n us p x w y. find-symbol m t n us q x w y (λ vs l. f vs (omega (arith, ap length p))))
+    go false false l q z f r = clauses (clauses-found (t ∷ ts) e (sym (no-key-here t ts q) ∙ r))
+    go true false true q z f r =
+        after-key true number_keyed number_declared t ts (number-name t z) e on-named-number no-name-of-number (sym (on-number-key t ts z) ∙ r)
+        (λ n us p x w y. find-number t n us z x w y (λ vs l. f vs (omega (arith, ap length p))))
+    go true false false q z f r = clauses (clauses-found (t ∷ ts) e (sym (neither-key t ts q z) ∙ r))
 
 ended-more : (t : Token) (ts : List Token) → Ended ts → Ended (t ∷ ts)
 ended-more t [] e = absurd e
@@ -466,6 +568,24 @@ tokens-ended zero (b ∷ bs) = go (is_class space b) refl (tokens-ended 0 bs) (t
     go true q r s = rw (q, tokens) r
     go false q r s = rw (q, tokens) (ended-more (token_from (class_of b) b bs) (tokens (length (token_from (class_of b) b bs).bytes - 1) bs) s)
 
+-- After `v2.` comes the end, or there is no `v2.`.
+items-ended : (ts : List Token) → Ended ts → Ended (items ts)
+unfolding items begins_v2
+items-ended ts e = go (begins_v2 ts) refl
+  where
+    after-mark : (ts : List Token) → Ended ts → begins_v2 ts ≡ true → Ended (drop 2 ts)
+    after-mark [] e q = absurd e
+    after-mark (t ∷ []) e q = let z : ◌≡◌ {A = ℕ} 0 1 = (let w = ((and-eq-true_iff (is_v2 t) false).0 q).1 in cc) in absurd (omega arith)
+    after-mark (t ∷ d ∷ []) e q = absurd (not-both (is ending d) e (other-kind dot ending d ((and-eq-true_iff (is_v2 t) (is dot d)).0 q).1 refl))
+    after-mark (t ∷ d ∷ u ∷ ts) e q = e
+
+    go : (b : Bool) → begins_v2 ts ≡ b → Ended (items ts)
+    go true q = rw (q, items) (after-mark ts e q)
+    go false q = rw (q, items) e
+
 -- THE STATES AND THE GRAMMAR AGREE: a text is read to its end exactly if its tokens are of the grammar.
-pub grammar-agrees : (text : List ℕ) → unread item (tokens 0 text) ≡ none ↔ TextOf (tokens 0 text)
-grammar-agrees text = (find-text (length (tokens 0 text)) (tokens 0 text) (omega arith) (tokens-ended 0 text), text-taken)
+pub grammar-agrees : (text : List ℕ) → text_unread text ≡ none ↔ TextOf (tokens 0 text)
+unfolding text_unread numbers_in text_items
+grammar-agrees text =
+    let ts = items (tokens 0 text) in
+    (find-items (length ts) (begins_v2 (tokens 0 text)) ts (omega arith) (items-ended (tokens 0 text) (tokens-ended 0 text)), items-taken)

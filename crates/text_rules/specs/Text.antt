@@ -3,20 +3,35 @@ use Rattle.std.specs.Prelude.{ℕ, ◌-◌, Bool, true, false, ◌&&◌, List, l
 use Rattle.std.proofs.Math.Option.{Option, none, some}
 use Rattle.rules.specs.Refusals.{bad_text, no_room, Checked, accepted, and_then as ◌>>=◌, require}
 use Rattle.rules.specs.Decks.{open_deck}
-use Rattle.text_rules.specs.TextTokens.{dot, tokens}
+use Rattle.rules.specs.Syntax.{Format}
+use Rattle.text_rules.specs.TextTokens.{dot, Token, tokens}
 use Rattle.text_rules.specs.TextGrammar.{item, unread}
-use Rattle.text_rules.specs.TextWords.{Declaration, declarations, clause_tokens, Entry, entries, declared_twice, misused, deck_from}
+use Rattle.text_rules.specs.TextWords.{Declaration, begins_v2, items, declarations, clause_tokens, Entry, entries, declared_twice, misused, format_from, deck_from}
 use Rattle.text_rules.specs.TextWriter.{deck_text}
 
+-- Whether a text begins with `v2.`, and its tokens after that.
+unfoldable pub numbers_in : List ℕ → Bool
+numbers_in text = begins_v2 (tokens 0 text)
+
+unfoldable pub text_items : List ℕ → List Token
+text_items text = items (tokens 0 text)
+
 unfoldable pub text_declarations : List ℕ → List Declaration
-text_declarations text = declarations 0 (tokens 0 text)
+text_declarations text = declarations 0 (text_items text)
 
 unfoldable pub text_entries : List ℕ → List Entry
-text_entries text = entries dot (clause_tokens 0 (tokens 0 text))
+text_entries text = entries dot (clause_tokens 0 (text_items text))
+
+-- The first token that may not stand where it does.
+unfoldable pub text_unread : List ℕ → Option ℕ
+text_unread text = unread (item (numbers_in text)) (text_items text)
+
+unfoldable pub text_format : List ℕ → Format
+text_format text = format_from (numbers_in text) (text_declarations text)
 
 -- The words that a text stands for, if it is not refused with 10.
 unfoldable pub text_words : List ℕ → List ℕ
-text_words text = deck_from (text_declarations text) (text_entries text)
+text_words text = deck_from (text_format text) (text_declarations text) (text_entries text)
 
 unfoldable pub or_else : Option ℕ → Option ℕ → Option ℕ
 or_else none other = other
@@ -27,7 +42,7 @@ or_else (some n) other = some n
 unfoldable pub bad_left : List ℕ → Option ℕ
 bad_left text =
     let ds = text_declarations text in
-    or_else (unread item (tokens 0 text)) (or_else (declared_twice ds 0 ds) (misused ds (text_entries text)))
+    or_else (text_unread text) (or_else (declared_twice ds 0 ds) (misused ds (text_entries text)))
 
 -- The place of refusal 10: the first byte of that token or name, or the text's length where it ends too early.
 unfoldable pub place_of : List ℕ → Option ℕ → Option ℕ

@@ -1,14 +1,15 @@
--- The grammar of texts (document 02, U1), token by token. `fn` and `pr` are names like any other.
+-- The grammar of texts (document 02, U1 and U10), token by token. `fn`, `pr`, `nu` and `v2` are names like any other. Text of a deck of format 2 begins
+-- with `v2.`, and numbers are declared in no other.
 --
---     text    = { declaration } { clause }
---     declaration = ( "fn" | "pr" ) name "/" number "."
+--     text    = [ "v2" "." ] { declaration } { clause }
+--     declaration = ( "fn" | "pr" ) name "/" number "." | "nu" name ( number | amount ) "."
 --     clause  = atom [ ":-" literal { "," literal } ] "."
 --     literal = [ "~" ] atom
 --     atom    = name [ "(" term { "," term } ")" ]
 --     term    = variable | atom
 use Rattle.std.specs.Prelude.{ℕ, zero, suc, Bool, true, false, ◌&&◌, ◌||◌, List, [], ◌∷◌, eqb}
 use Rattle.std.proofs.Math.Option.{Option, none, some}
-use Rattle.text_rules.specs.TextTokens.{Kind, name, number, variable, implies, slash, dot, opening, closing, comma, tilde, ending, kind_number, Token}
+use Rattle.text_rules.specs.TextTokens.{Kind, name, number, amount, variable, implies, slash, dot, opening, closing, comma, tilde, ending, kind_number, Token}
 
 abbrev pub same_kind : Kind → Kind → Bool
 same_kind k l = eqb (kind_number k) (kind_number l)
@@ -29,18 +30,35 @@ fn_text = 102 ∷ 110 ∷ []
 unfoldable pub pr_text : List ℕ
 pr_text = 112 ∷ 114 ∷ []
 
+-- "nu", "v2"
+unfoldable pub nu_text : List ℕ
+nu_text = 110 ∷ 117 ∷ []
+
+unfoldable pub v2_text : List ℕ
+v2_text = 118 ∷ 50 ∷ []
+
 unfoldable pub is_key : Token → Bool
 is_key t = is name t && (same_bytes t.bytes fn_text || same_bytes t.bytes pr_text)
+
+unfoldable pub is_number_key : Token → Bool
+is_number_key t = is name t && same_bytes t.bytes nu_text
+
+unfoldable pub is_v2 : Token → Bool
+is_v2 t = is name t && same_bytes t.bytes v2_text
+
+unfoldable pub is_value : Token → Bool
+is_value t = is number t || is amount t
 
 -- A clause's head and its body.
 pub data Part : Type 0 where
   head body : Part
 
--- Where a text stands: before an item, while there was no clause; in a declaration, after `fn` or `pr`, the name, `/`, the arity;
--- before an item, once there was a clause; in a clause, before a literal; after `~`; at the end.
+-- Where a text stands: before an item, while there was no clause; in a declaration, after `fn` or `pr`, the name, `/`, the arity (whether numbers may be
+-- declared goes along); after `nu` and its name; before an item, once there was a clause; in a clause, before a literal; after `~`; at the end.
 -- In a part of a clause with so many brackets open: before a term, after a name, after a term or an atom.
 pub data State : Type 0 where
-  item keyed declared slashed counted clause literal negated finished : State
+  item keyed declared slashed counted : Bool → State
+  number_keyed number_declared clause literal negated finished : State
   term named after : Part → ℕ → State
 
 -- A token that may stand next, and where the text stands then.
@@ -56,13 +74,19 @@ after_term p (suc depth) = (is comma ⇒ term p (suc depth)) ∷ (is closing ⇒
 unfoldable pub after_name : Part → ℕ → List Follow
 after_name p depth = (is opening ⇒ term p (suc depth)) ∷ after_term p depth
 
+abbrev pub item_follows : List Follow
+item_follows = (is name ⇒ named head 0) ∷ (is ending ⇒ finished) ∷ []
+
 unfoldable pub follows : State → List Follow
-follows item = (is_key ⇒ keyed) ∷ (is name ⇒ named head 0) ∷ (is ending ⇒ finished) ∷ []
-follows keyed = (is name ⇒ declared) ∷ after_name head 0
-follows declared = (is slash ⇒ slashed) ∷ []
-follows slashed = (is number ⇒ counted) ∷ []
-follows counted = (is dot ⇒ item) ∷ []
-follows clause = (is name ⇒ named head 0) ∷ (is ending ⇒ finished) ∷ []
+follows (item false) = (is_key ⇒ keyed false) ∷ item_follows
+follows (item true) = (is_key ⇒ keyed true) ∷ (is_number_key ⇒ number_keyed) ∷ item_follows
+follows (keyed numbers) = (is name ⇒ declared numbers) ∷ after_name head 0
+follows (declared numbers) = (is slash ⇒ slashed numbers) ∷ []
+follows (slashed numbers) = (is number ⇒ counted numbers) ∷ []
+follows (counted numbers) = (is dot ⇒ item numbers) ∷ []
+follows number_keyed = (is name ⇒ number_declared) ∷ after_name head 0
+follows number_declared = (is_value ⇒ counted true) ∷ []
+follows clause = item_follows
 follows literal = (is tilde ⇒ negated) ∷ (is name ⇒ named body 0) ∷ []
 follows negated = (is name ⇒ named body 0) ∷ []
 follows finished = []

@@ -1,10 +1,11 @@
 -- Text as tokens (document 02, U1). Bytes 32 and 10 may stand before, between and after tokens; each token is taken as long as it can be.
 use Rattle.std.specs.Prelude.{ℕ, zero, suc, ◌+◌, ◌*◌, ◌-◌, Bool, true, false, ◌&&◌, ◌||◌, List, [], ◌∷◌, length, take, leb, eqb}
 
--- Kinds of tokens. A number is an arity, a variable is `_` and its number, `implies` is `:-`.
--- After the last token stands `ending`; `invalid` are bytes that are no token, an arity over 15 and a variable over 1,023.
+-- Kinds of tokens. A number is an arity, or one of the values 0 to 15; an amount is any other value, -32,768 to -1 and 16 to 32,767 (document 02, U10).
+-- A variable is `_` and its number, `implies` is `:-`. After the last token stands `ending`; `invalid` are bytes that are no token, a value out of range,
+-- `-0` and a variable over 1,023.
 pub data Kind : Type 0 where
-  name number variable implies slash dot opening closing comma tilde ending invalid : Kind
+  name number amount variable implies slash dot opening closing comma tilde ending invalid : Kind
 
 abbrev pub kind_number : Kind → ℕ
 kind_number invalid = 0
@@ -19,6 +20,7 @@ kind_number opening = 8
 kind_number closing = 9
 kind_number comma = 10
 kind_number tilde = 11
+kind_number amount = 12
 
 -- Classes of bytes. A mark is a token by itself.
 pub data Class : Type 0 where
@@ -89,8 +91,19 @@ token k bs n = record { kind = k; bytes = bs; left = n }
 unfoldable pub at_most : ℕ → Kind → ℕ → Kind
 at_most most k n = elim (leb n most) [ true ↦ k | false ↦ invalid ]
 
+unfoldable pub number_kind : ℕ → Kind
+number_kind n = elim (leb n 15) [ true ↦ number | false ↦ at_most 32767 amount n ]
+
 unfoldable pub number_token : List ℕ → ℕ → Token
-number_token digits left = token (at_most 15 number (value 0 digits)) digits left
+number_token digits left = token (number_kind (value 0 digits)) digits left
+
+-- `-` and a number other than 0 are one token.
+unfoldable pub negative_kind : ℕ → Kind
+negative_kind n = elim (leb 1 n) [ true ↦ at_most 32768 amount n | false ↦ invalid ]
+
+unfoldable pub negative_token : ℕ → List ℕ → ℕ → Token
+negative_token b [] left = token invalid (b ∷ []) left
+negative_token b (d ∷ ds) left = token (negative_kind (value 0 (d ∷ ds))) (b ∷ d ∷ ds) left
 
 unfoldable pub variable_token : ℕ → List ℕ → ℕ → Token
 variable_token b [] left = token invalid (b ∷ []) left
@@ -108,7 +121,7 @@ token_from digit b bs = number_token (numeral (b ∷ bs)) (length (b ∷ bs))
 token_from underscore b bs = variable_token b (numeral bs) (length (b ∷ bs))
 token_from colon b bs = implies_token b bs (length (b ∷ bs))
 token_from (mark k) b bs = token k (b ∷ []) (length (b ∷ bs))
-token_from minus b bs = token invalid (b ∷ []) (length (b ∷ bs))
+token_from minus b bs = negative_token b (numeral bs) (length (b ∷ bs))
 token_from space b bs = token invalid (b ∷ []) (length (b ∷ bs))
 token_from no_class b bs = token invalid (b ∷ []) (length (b ∷ bs))
 

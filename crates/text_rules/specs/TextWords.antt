@@ -1,15 +1,16 @@
--- From the tokens of a readable text to a deck's words (document 02, U1).
-use Rattle.std.specs.Prelude.{ℕ, zero, suc, ◌+◌, Bool, true, false, ◌&&◌, List, [], ◌∷◌, ◌++◌, map, length, get_or, drop, eqb}
+-- From the tokens of a readable text to a deck's words (document 02, U1 and U10).
+use Rattle.std.specs.Prelude.{ℕ, zero, suc, ◌+◌, ◌-◌, Bool, true, false, ◌&&◌, ◌||◌, List, [], ◌∷◌, ◌++◌, map, length, get_or, drop, eqb}
 use Rattle.std.proofs.Math.Option.{Option, none, some}
 use Rattle.std.proofs.Math.ListN.{get_elem?}
-use Rattle.rules.specs.Syntax.{Symbol, functor, predicate}
-use Rattle.rules.specs.Decks.{write_symbol, header_words}
+use Rattle.rules.specs.Syntax.{Symbol, functor, predicate, Format, format1, format2}
+use Rattle.rules.specs.Decks.{write_symbols, format_number, header_words}
 use Rattle.text_rules.specs.TextTokens.{Kind, name, variable, dot, opening, closing, comma, tilde, value, Token, end_token}
-use Rattle.text_rules.specs.TextGrammar.{same_kind, is, same_bytes, fn_text, is_key}
+use Rattle.text_rules.specs.TextGrammar.{same_kind, is, same_bytes, fn_text, is_key, is_number_key, is_v2}
 
--- A declaration: its symbol, its name, and the bytes left from the name on.
+-- A declaration: its symbol, the word of its value if it is a number, its name, and the bytes left from the name on.
 pub record Declaration : Type 0 where
   pub symbol : Symbol
+  pub value : Option ℕ
   pub name : List ℕ
   pub left : ℕ
 
@@ -19,24 +20,47 @@ symbol_from key k = elim (same_bytes key fn_text) [ true ↦ functor k | false �
 abbrev pub token_at : List Token → ℕ → Token
 token_at ts i = get_or ts i end_token
 
--- A declaration is told from a clause by its second token, a name. It is five tokens.
+-- The word of a value: `-`, byte 45, and a number, or a number.
+unfoldable pub value_word : List ℕ → ℕ
+value_word [] = 0
+value_word (b ∷ bs) = elim (eqb b 45) [ true ↦ 65536 - value 0 bs | false ↦ value 0 (b ∷ bs) ]
+
+-- Text of a deck of format 2 begins with `v2.`, two tokens.
+unfoldable pub begins_v2 : List Token → Bool
+begins_v2 [] = false
+begins_v2 (t ∷ ts) = is_v2 t && is dot (token_at ts 0)
+
+unfoldable pub items : List Token → List Token
+items ts = elim (begins_v2 ts) [ true ↦ drop 2 ts | false ↦ ts ]
+
+-- A declaration is told from a clause by its second token, a name. It is five tokens; a number's is four.
 unfoldable pub declares : Token → List Token → Bool
-declares key ts = is_key key && is name (token_at ts 0)
+declares key ts = (is_key key || is_number_key key) && is name (token_at ts 0)
+
+unfoldable pub number_declaration : List Token → Declaration
+number_declaration ts =
+    record { symbol = functor 0; value = some (value_word (token_at ts 1).bytes); name = (token_at ts 0).bytes; left = (token_at ts 0).left }
+
+unfoldable pub symbol_declaration : Token → List Token → Declaration
+symbol_declaration key ts =
+    record { symbol = symbol_from key.bytes (value 0 (token_at ts 2).bytes); value = none; name = (token_at ts 0).bytes; left = (token_at ts 0).left }
 
 unfoldable pub declaration : Token → List Token → Declaration
-declaration key ts =
-    record { symbol = symbol_from key.bytes (value 0 (token_at ts 2).bytes); name = (token_at ts 0).bytes; left = (token_at ts 0).left }
+declaration key ts = elim (is_key key) [ true ↦ symbol_declaration key ts | false ↦ number_declaration ts ]
+
+unfoldable pub tokens_after : Token → ℕ
+tokens_after key = elim (is_key key) [ true ↦ 4 | false ↦ 3 ]
 
 -- The declarations, and the tokens after them. The first `skip` tokens belong to the declaration before.
 unfoldable pub declarations : ℕ → List Token → List Declaration
 declarations skip [] = []
 declarations (suc skip) (t ∷ ts) = declarations skip ts
-declarations zero (t ∷ ts) = elim (declares t ts) [ true ↦ declaration t ts ∷ declarations 4 ts | false ↦ [] ]
+declarations zero (t ∷ ts) = elim (declares t ts) [ true ↦ declaration t ts ∷ declarations (tokens_after t) ts | false ↦ [] ]
 
 unfoldable pub clause_tokens : ℕ → List Token → List Token
 clause_tokens skip [] = []
 clause_tokens (suc skip) (t ∷ ts) = clause_tokens skip ts
-clause_tokens zero (t ∷ ts) = elim (declares t ts) [ true ↦ clause_tokens 4 ts | false ↦ t ∷ ts ]
+clause_tokens zero (t ∷ ts) = elim (declares t ts) [ true ↦ clause_tokens (tokens_after t) ts | false ↦ t ∷ ts ]
 
 -- The commas between here and the end of the brackets, in which `depth` further ones are open.
 unfoldable pub commas : ℕ → List Token → ℕ
@@ -135,7 +159,11 @@ starts_from at (a_head u ∷ es) = at ∷ starts_from (suc at) es
 starts_from at (a_negated u ∷ es) = starts_from (suc at) es
 starts_from at (a_symbol u ∷ es) = starts_from (suc at) es
 
-unfoldable pub deck_from : List Declaration → List Entry → List ℕ
-deck_from ds es =
+unfoldable pub format_from : Bool → List Declaration → Format
+format_from numbers ds = elim numbers [ true ↦ format2 (map (λ d. d.value) ds) | false ↦ format1 ]
+
+unfoldable pub deck_from : Format → List Declaration → List Entry → List ℕ
+deck_from F ds es =
     let starts = starts_from 0 es in
-    header_words (length ds) (length starts) (length es) ++ (map (λ d. write_symbol d.symbol) ds ++ (starts ++ map (entry_cell ds) es))
+    header_words (format_number F) (length ds) (length starts) (length es)
+    ++ (write_symbols F (map (λ d. d.symbol) ds) ++ (starts ++ map (entry_cell ds) es))

@@ -1,9 +1,11 @@
--- A deck as text (document 02, U1): one item a line, each ended by byte 10, with names s0, s1 and on. Most functions take `rest`, the bytes that follow.
-use Rattle.std.specs.Prelude.{ℕ, suc, List, [], ◌∷◌, ◌++◌}
+-- A deck as text (document 02, U1 and U10): one item a line, each ended by byte 10, with names s0, s1 and on. Most functions take `rest`, the bytes that follow.
+use Rattle.std.specs.Prelude.{ℕ, suc, ◌-◌, true, false, List, [], ◌∷◌, ◌++◌, ltb}
+use Rattle.std.proofs.Math.Option.{Option, none, some}
 use Rattle.rules.specs.Terms.{Term, var, app, Terms, nil, cons}
-use Rattle.rules.specs.Syntax.{Symbol, functor, predicate, Literal, pos, neg, Clause, Deck}
+use Rattle.rules.specs.Syntax.{Symbol, functor, predicate, Literal, pos, neg, Clause, Format, format1, format2, Deck}
+use Rattle.rules.specs.Column.{number_word}
 use Rattle.rules.specs.Listing.{decimal}
-use Rattle.text_rules.specs.TextGrammar.{fn_text, pr_text}
+use Rattle.text_rules.specs.TextGrammar.{fn_text, pr_text, nu_text, v2_text}
 
 -- `s` and the symbol's number.
 unfoldable pub name_text : ℕ → List ℕ → List ℕ
@@ -17,10 +19,26 @@ unfoldable pub symbol_text : Symbol → ℕ → List ℕ → List ℕ
 symbol_text (functor k) n rest = declaration_text fn_text n k rest
 symbol_text (predicate k) n rest = declaration_text pr_text n k rest
 
--- Symbols from number n on.
-unfoldable pub symbols_text : ℕ → List Symbol → List ℕ → List ℕ
-symbols_text n [] rest = rest
-symbols_text n (s ∷ ss) rest = symbol_text s n (symbols_text (suc n) ss rest)
+-- `nu s2 -35.`, by the word of the value.
+unfoldable pub value_text : ℕ → List ℕ → List ℕ
+value_text w rest = elim (ltb w 32768) [ true ↦ decimal w rest | false ↦ 45 ∷ decimal (65536 - w) rest ]
+
+unfoldable pub number_text : ℕ → ℕ → List ℕ → List ℕ
+number_text w n rest = nu_text ++ (32 ∷ name_text n (32 ∷ value_text w (46 ∷ 10 ∷ rest)))
+
+unfoldable pub symbol_line : Symbol → Option ℕ → ℕ → List ℕ → List ℕ
+symbol_line s none n rest = symbol_text s n rest
+symbol_line s (some w) n rest = number_text w n rest
+
+-- Symbols from number n on, numbers with their values.
+unfoldable pub symbols_text : Format → ℕ → List Symbol → List ℕ → List ℕ
+symbols_text F n [] rest = rest
+symbols_text F n (s ∷ ss) rest = symbol_line s (number_word F n) n (symbols_text F (suc n) ss rest)
+
+-- `v2.` on a line of its own, for format 2.
+unfoldable pub format_text : Format → List ℕ → List ℕ
+format_text format1 rest = rest
+format_text (format2 vs) rest = v2_text ++ (46 ∷ 10 ∷ rest)
 
 -- Arguments in round brackets with bare commas between them; a variable as `_` and its number.
 abbrev mutual
@@ -58,4 +76,4 @@ clauses_text [] = []
 clauses_text (c ∷ cs) = clause_text c (clauses_text cs)
 
 unfoldable pub deck_text : Deck → List ℕ
-deck_text d = symbols_text 0 d.symbols (clauses_text d.clauses)
+deck_text d = format_text d.format (symbols_text d.format 0 d.symbols (clauses_text d.clauses))

@@ -9,18 +9,19 @@ use native.Mathlib.Decide.{dec_lt, ℕ_discrete}
 use lib.ListN.{length, get_or, get_elem?, take, drop, replicate}
 use Rattle.std.specs.Prelude.{Option, Some, None, MatchOption, IfSome}
 use Rattle.text_rules.specs.TextTokens.{tokens}
-use Rattle.text_rules.specs.TextGrammar.{item, unread, same_bytes}
+use Rattle.text_rules.specs.TextGrammar.{same_bytes}
 use Rattle.text_rules.specs.TextWords.{declarations, number_of, arity, has_arity, declared_at}
 use Rattle.text_rules.specs.TextWords as rules
-use Rattle.text_rules.specs.Text.{text_declarations}
-use Rattle.text.specs.declared.grammar.Key.{Key}
-use Rattle.text.specs.declared.grammar.Key.TheVariants.{Function, Predicate}
+use Rattle.text_rules.specs.Text.{text_declarations, text_unread}
 use Rattle.text.specs.Hash.{last_with, found_at, is_name}
 use Rattle.text.specs.Names.{Table, name_at}
 use Rattle.text.proofs.NameLaws.{bytes_same, found_none, found_some, last-below, last-passes}
 use Rattle.text.proofs.NumberLaws.{last_none}
 use Rattle.naming.specs.declared.declarations.Declaration.{Declaration}
-use Rattle.naming.specs.Walks.{symbol_of, declaration_of, Declares}
+use Rattle.naming.specs.Walks.{symbol_of, declaration_of, Readable, Declares}
+use Rattle.naming.proofs.WalkLaws.{passed_none}
+use Rattle.text.specs.declared.start.Start.{Start}
+use Rattle.text.specs.Starts.{Starts}
 use Rattle.uses.specs.Uses.{takes}
 use Rattle.uses.specs.Batches.{Distinct, arity_in, is_arity, Put, agrees_at, FirstOther}
 
@@ -64,10 +65,6 @@ abbrev or_later : Option ℕ → Option ℕ → Option ℕ
 or_later None later = later
 or_later (Some a) later = Some a
 
-arity-of : (key : Key) (k : ℕ) → arity (symbol_of key k) ≡ k
-arity-of Function k = refl
-arity-of Predicate k = refl
-
 other_name : (xs ys : List ℕ) → (xs ≡ ys → ⊥) → same_bytes xs ys ≡ false
 other_name xs ys f = go (same_bytes xs ys) refl
   where
@@ -78,7 +75,7 @@ other_name xs ys f = go (same_bytes xs ys) refl
 -- The declarations before `at` are looked up.
 pub record WalkedTo (t : Table ℕ) (found : List (Option ℕ)) (at : ℕ) : Type 0 where
   pub inside : at ≤ length t.text
-  pub readable : unread item (tokens 0 (drop at t.text)) ≡ none
+  pub readable : Readable t.text at
   pub room : length found ≡ 4096
   pub same : (j : ℕ) → j < length t.entries → arity_in (text_declarations t.text) (name_at t j) ≡ or_later (get_or found j None) (arity_in (declarations 0 (tokens 0 (drop at t.text))) (name_at t j))
 
@@ -87,14 +84,15 @@ nothing zero j = refl
 nothing (suc n) zero = refl
 nothing (suc n) (suc j) = nothing n j
 
-pub walk_start : (t : Table ℕ) → unread item (tokens 0 t.text) ≡ none → WalkedTo t (replicate 4096 None) 0
-unfolding text_declarations
-walk_start t e =
+pub walk_start : (t : Table ℕ) (r : Start) → Starts t.text r → text_unread t.text ≡ none → WalkedTo t (replicate 4096 None) r.at
+walk_start t r h e =
+    let p = passed_none t.text r h e in
     record {
-      inside = omega arith;
-      readable = e;
+      inside = p.inside;
+      readable = p.readable;
       room = refl;
-      same = λ j p. ap (λ a. or_later a (arity_in (declarations 0 (tokens 0 t.text)) (name_at t j))) (sym (nothing 4096 j));
+      same =
+          λ j l. ap (λ ds. arity_in ds (name_at t j)) p.rest ∙ ap (λ a. or_later a (arity_in (declarations 0 (tokens 0 (drop r.at t.text))) (name_at t j))) (sym (nothing 4096 j));
     }
 
 module _ (t : Table ℕ) (found : List (Option ℕ)) (at : ℕ) (W : WalkedTo t found at) where
@@ -128,7 +126,7 @@ module _ (t : Table ℕ) (found : List (Option ℕ)) (at : ℕ) (W : WalkedTo t 
             order (no p) (yes y) = differ j i y (found_below i q) (sym both)
             order (no p) (no y) = let z : i ≡ j = omega arith in f (q ∙ ap Some z)
 
-    module _ (found' : List (Option ℕ)) (size : length found' ≡ 4096) (P : Put found r d.arity found') where
+    module _ (found' : List (Option ℕ)) (size : length found' ≡ 4096) (P : Put found r (arity (symbol_of d.symbol)) found') where
       abbrev rest : List rules.Declaration
       rest = declarations 0 (tokens 0 (drop d.end t.text))
 
@@ -141,12 +139,12 @@ module _ (t : Table ℕ) (found : List (Option ℕ)) (at : ℕ) (W : WalkedTo t 
       step : (j : ℕ) → j < length t.entries → or_later (get_or found j None) (arity_in (first ∷ rest) (name_at t j)) ≡ or_later (get_or found' j None) (arity_in rest (name_at t j))
       step j l = go (is? r)
         where
-          here : r ≡ Some j → arity_in (first ∷ rest) (name_at t j) ≡ Some d.arity
-          here q = let s : same_bytes (name_at t j) first.name ≡ true = ap (same_bytes (name_at t j)) named ∙ is-this j q in rw (s, arity_in) (ap Some (arity-of d.key d.arity))
+          here : r ≡ Some j → arity_in (first ∷ rest) (name_at t j) ≡ Some (arity (symbol_of d.symbol))
+          here q = let s : same_bytes (name_at t j) first.name ≡ true = ap (same_bytes (name_at t j)) named ∙ is-this j q in rw (s, arity_in) refl
 
-          kept : r ≡ Some j → (a : Option ℕ) → get_or found j None ≡ a → or_later (get_or found j None) (Some d.arity) ≡ or_later (get_or found' j None) (arity_in rest (name_at t j))
-          kept q None z = ap (λ a. or_later a (Some d.arity)) z ∙ sym (ap (λ a. or_later a (arity_in rest (name_at t j))) (P.here j q z))
-          kept q (Some a) z = ap (λ a. or_later a (Some d.arity)) z ∙ sym (ap (λ a. or_later a (arity_in rest (name_at t j))) (P.old j a q z))
+          kept : r ≡ Some j → (a : Option ℕ) → get_or found j None ≡ a → or_later (get_or found j None) (Some (arity (symbol_of d.symbol))) ≡ or_later (get_or found' j None) (arity_in rest (name_at t j))
+          kept q None z = ap (λ a. or_later a (Some (arity (symbol_of d.symbol)))) z ∙ sym (ap (λ a. or_later a (arity_in rest (name_at t j))) (P.here j q z))
+          kept q (Some a) z = ap (λ a. or_later a (Some (arity (symbol_of d.symbol)))) z ∙ sym (ap (λ a. or_later a (arity_in rest (name_at t j))) (P.old j a q z))
 
           is? : (o : Option ℕ) → Dec (o ≡ Some j)
           is? None = no (λ q. cc)

@@ -11,9 +11,9 @@ use borrow.Author.Tests.{eqb-true}
 use Rattle.std.proofs.Math.Option.{none-ne-some}
 use lib.ListN.{length, get_or, drop}
 use Rattle.text_rules.specs.TextTokens.{Kind, name, variable, dot, tilde, opening, Token, tokens}
-use Rattle.text_rules.specs.TextGrammar.{item, unread, is, same_kind}
+use Rattle.text_rules.specs.TextGrammar.{is, same_kind}
 use Rattle.text_rules.specs.TextWords.{Declaration, arity, has_arity, declared_at, number_of, commas, given_arguments, Use, Entry, entry_after, entries, well_used, misused, clause_tokens}
-use Rattle.text_rules.specs.Text.{place_of, text_declarations, text_entries}
+use Rattle.text_rules.specs.Text.{text_unread, text_items, place_of, text_declarations, text_entries}
 use Rattle.text.specs.declared.tokens.Kind.{Kind as Scanned_kind}
 use Rattle.text.specs.declared.tokens.Kind.TheVariants.{Name, Ending, Opening}
 use Rattle.text.specs.declared.tokens.Token.{Token as Scanned}
@@ -100,7 +100,7 @@ has-told (some d) h k = go (ℕ_discrete (arity d.symbol) k)
     go (yes e) = let t : told k ≡ k = omega (arith, l, e) in ap (eqb (arity d.symbol)) (sym t)
     go (no f) = unequal (arity d.symbol) k f ∙ sym (unequal (arity d.symbol) (told k) (λ e. f (omega (arith, l, e))))
 
-takes-told : (text : List ℕ) → unread item (tokens 0 text) ≡ none → (bytes : List ℕ) (k : ℕ) → takes (text_declarations text) bytes k ≡ takes (text_declarations text) bytes (told k)
+takes-told : (text : List ℕ) → text_unread text ≡ none → (bytes : List ℕ) (k : ℕ) → takes (text_declarations text) bytes k ≡ takes (text_declarations text) bytes (told k)
 unfolding declared_at
 takes-told text e bytes k = let ds = text_declarations text in has-told (declared_at ds (number_of bytes 0 ds)) (go (number_of bytes 0 ds)) k
   where
@@ -172,7 +172,7 @@ module _ (text : List ℕ) (at : ℕ) (r : Scanned) (n : Next text at r) where
   pub pass-other : (r.kind ≡ Ending → ⊥) → (r.kind ≡ Name → ⊥) → misuse_from text at ≡ misuse_from text r.to
   pass-other f g = token-goes f (fits-other ds r.kind this.bytes after g)
 
-  module _ (readable : unread item (tokens 0 text) ≡ none) (e : r.kind ≡ Name) (k : ℕ) (K : k ≡ told (given_arguments after)) where
+  module _ (readable : text_unread text ≡ none) (e : r.kind ≡ Name) (k : ℕ) (K : k ≡ told (given_arguments after)) where
     abbrev used : Used
     used = record { from = r.from; to = r.to; arguments = k }
 
@@ -191,6 +191,6 @@ module _ (text : List ℕ) (at : ℕ) (r : Scanned) (n : Next text at r) where
         }
 
 -- The whole.
-pub clauses-misused : (text : List ℕ) (end : ℕ) → clause_tokens 0 (tokens 0 text) ≡ tokens 0 (drop end text) → misused (text_declarations text) (text_entries text) ≡ misuse_from text end
+pub clauses-misused : (text : List ℕ) (end : ℕ) → clause_tokens 0 (text_items text) ≡ tokens 0 (drop end text) → misused (text_declarations text) (text_entries text) ≡ misuse_from text end
 unfolding text_entries
-clauses-misused text end e = misused-first (text_declarations text) dot (clause_tokens 0 (tokens 0 text)) ∙ ap (first_misuse (text_declarations text)) e
+clauses-misused text end e = misused-first (text_declarations text) dot (clause_tokens 0 (text_items text)) ∙ ap (first_misuse (text_declarations text)) e

@@ -10,7 +10,7 @@ use lib.Seq.{drop-cons}
 use native.Mathlib.Numerals.{add-one}
 use lib.Dec.{leb, eqb}
 use borrow.Author.Tests.{eq-eqb, ne_eqb, eqb-true, le-leb, lt-leb}
-use Rattle.text_rules.specs.TextTokens.{Kind, name, number, variable, implies, invalid, opening, closing, comma, kind_number, Class, no_class, space, letter, zero_digit, digit, underscore, colon, minus, mark, class_number, class_in, Range, range, ranges, class_of, is_class, digit_byte, word_byte, longest, numeral, value, Token, token, at_most, number_token, variable_token, implies_token, token_from, end_token, tokens}
+use Rattle.text_rules.specs.TextTokens.{Kind, name, number, amount, variable, implies, invalid, opening, closing, comma, kind_number, Class, no_class, space, letter, zero_digit, digit, underscore, colon, minus, mark, class_number, class_in, Range, range, ranges, class_of, is_class, digit_byte, word_byte, longest, numeral, value, Token, token, at_most, number_kind, negative_kind, number_token, negative_token, variable_token, implies_token, token_from, end_token, tokens}
 use Rattle.text_rules.specs.TextGrammar.{is}
 use Rattle.text_rules.specs.TextWords.{commas}
 use Rattle.uses.specs.Pairs.{mark_of, in_brackets}
@@ -124,13 +124,20 @@ mark-alike b k e = go (dec_lt b 128)
           parts = sym (ap (eqb 10) (sym kind) ∙ same-is _ _ q.1);
         }
 
-small-alike : (k l : Kind) → kind_number k < 8 → kind_number l < 8 → Alike k l
+-- Kinds that are no brackets and no commas.
+abbrev NoMark : Kind → Type 0
+NoMark k = (kind_number k ≡ 8 → ⊥) × (kind_number k ≡ 9 → ⊥) × (kind_number k ≡ 10 → ⊥)
+
+small-alike : (k l : Kind) → NoMark k → NoMark l → Alike k l
 small-alike k l p q =
     record {
-      opens = ne_eqb 8 (kind_number k) (λ e. omega arith) ∙ sym (ne_eqb 8 (kind_number l) (λ e. omega arith));
-      closes = ne_eqb 9 (kind_number k) (λ e. omega arith) ∙ sym (ne_eqb 9 (kind_number l) (λ e. omega arith));
-      parts = ne_eqb 10 (kind_number k) (λ e. omega arith) ∙ sym (ne_eqb 10 (kind_number l) (λ e. omega arith));
+      opens = ne_eqb 8 (kind_number k) (λ e. p.0 (sym e)) ∙ sym (ne_eqb 8 (kind_number l) (λ e. q.0 (sym e)));
+      closes = ne_eqb 9 (kind_number k) (λ e. p.1 (sym e)) ∙ sym (ne_eqb 9 (kind_number l) (λ e. q.1 (sym e)));
+      parts = ne_eqb 10 (kind_number k) (λ e. p.2 (sym e)) ∙ sym (ne_eqb 10 (kind_number l) (λ e. q.2 (sym e)));
     }
+
+no-mark : (k : Kind) → kind_number k < 8 → NoMark k
+no-mark k h = (λ e. omega arith, λ e. omega arith, λ e. omega arith)
 
 -- Bytes inside a token are no marks.
 abbrev Plain : ℕ → List ℕ → Type 0
@@ -203,61 +210,81 @@ record TokenLike (b : ℕ) (bs : List ℕ) (t : Token) : Type 0 where
 one_byte : (b : ℕ) (bs : List ℕ) (k : Kind) (left : ℕ) → Alike (mark_of b) k → TokenLike b bs (token k (b ∷ []) left)
 one_byte b bs k left a = record { alike = a; plain = tt }
 
-at-most : (most : ℕ) (k : Kind) (n : ℕ) → kind_number k < 8 → kind_number (at_most most k n) < 8
+at-most : (most : ℕ) (k : Kind) (n : ℕ) → NoMark k → NoMark (at_most most k n)
 unfolding at_most
 at-most most k n h = go (leb n most) refl
   where
-    go : (x : Bool) → leb n most ≡ x → kind_number (at_most most k n) < 8
+    go : (x : Bool) → leb n most ≡ x → NoMark (at_most most k n)
     go true q = rw (q, at_most) h
-    go false q = rw (q, at_most) (omega arith)
+    go false q = rw (q, at_most) (no-mark invalid (omega arith))
+
+number-no-mark : (n : ℕ) → NoMark (number_kind n)
+unfolding number_kind
+number-no-mark n = go (leb n 15) refl
+  where
+    go : (x : Bool) → leb n 15 ≡ x → NoMark (number_kind n)
+    go true q = let e : number_kind n ≡ number = rw (q, number_kind) refl in subst NoMark (sym e) (no-mark number (omega arith))
+    go false q = let e : number_kind n ≡ at_most 32767 amount n = rw (q, number_kind) refl in subst NoMark (sym e) (at-most 32767 amount n (λ e. omega arith, λ e. omega arith, λ e. omega arith))
+
+negative-no-mark : (n : ℕ) → NoMark (negative_kind n)
+unfolding negative_kind
+negative-no-mark n = go (leb 1 n) refl
+  where
+    go : (x : Bool) → leb 1 n ≡ x → NoMark (negative_kind n)
+    go true q = let e : negative_kind n ≡ at_most 32768 amount n = rw (q, negative_kind) refl in subst NoMark (sym e) (at-most 32768 amount n (λ e. omega arith, λ e. omega arith, λ e. omega arith))
+    go false q = let e : negative_kind n ≡ invalid = rw (q, negative_kind) refl in subst NoMark (sym e) (no-mark invalid (omega arith))
 
 module _ (b : ℕ) (bs : List ℕ) (o : Other b) where
-  low : (k : Kind) → kind_number k < 8 → Alike (mark_of b) k
-  low k h = small-alike (mark_of b) k (omega (arith, ap kind_number o)) h
+  low : (k : Kind) → NoMark k → Alike (mark_of b) k
+  low k h = small-alike (mark_of b) k (no-mark (mark_of b) (omega (arith, ap kind_number o))) h
 
   number-like : TokenLike b bs (number_token (numeral (b ∷ bs)) (length (b ∷ bs)))
   unfolding number_token
   number-like =
       record {
-        alike = low (at_most 15 number (value 0 (numeral (b ∷ bs)))) (at-most 15 number (value 0 (numeral (b ∷ bs))) (omega arith));
+        alike = low (number_kind (value 0 (numeral (b ∷ bs)))) (number-no-mark (value 0 (numeral (b ∷ bs))));
         plain = after_first (length (numeral (b ∷ bs))) b bs (plain-numeral (b ∷ bs));
       }
 
+  -- The first byte and digits after it.
+  signed-like : (k : Kind) (d : ℕ) (ds : List ℕ) → NoMark k → Plain (length (d ∷ ds)) bs → TokenLike b bs (token k (b ∷ d ∷ ds) (length (b ∷ bs)))
+  signed-like k d ds h p = let z : length (b ∷ d ∷ ds) - 1 ≡ length (d ∷ ds) = omega arith in record { alike = low k h; plain = subst (λ n. Plain n bs) (sym z) p }
+
   variable-like : (ds : List ℕ) → Plain (length ds) bs → TokenLike b bs (variable_token b ds (length (b ∷ bs)))
   unfolding variable_token
-  variable-like [] p = one_byte b bs invalid (length (b ∷ bs)) (low invalid (omega arith))
-  variable-like (d ∷ ds) p =
-      let z : length (b ∷ d ∷ ds) - 1 ≡ length (d ∷ ds) = omega arith in
-      record {
-        alike = low (at_most 1023 variable (value 0 (d ∷ ds))) (at-most 1023 variable (value 0 (d ∷ ds)) (omega arith));
-        plain = subst (λ n. Plain n bs) (sym z) p;
-      }
+  variable-like [] p = one_byte b bs invalid (length (b ∷ bs)) (low invalid (no-mark invalid (omega arith)))
+  variable-like (d ∷ ds) p = signed-like (at_most 1023 variable (value 0 (d ∷ ds))) d ds (at-most 1023 variable (value 0 (d ∷ ds)) (no-mark variable (omega arith))) p
+
+  negative-like : (ds : List ℕ) → Plain (length ds) bs → TokenLike b bs (negative_token b ds (length (b ∷ bs)))
+  unfolding negative_token
+  negative-like [] p = one_byte b bs invalid (length (b ∷ bs)) (low invalid (no-mark invalid (omega arith)))
+  negative-like (d ∷ ds) p = signed-like (negative_kind (value 0 (d ∷ ds))) d ds (negative-no-mark (value 0 (d ∷ ds))) p
 
 implies-like : (b : ℕ) (bs : List ℕ) → Other b → TokenLike b bs (implies_token b bs (length (b ∷ bs)))
 unfolding implies_token is_class
-implies-like b [] o = one_byte b [] invalid (length (b ∷ [])) (low b [] o invalid (omega arith))
+implies-like b [] o = one_byte b [] invalid (length (b ∷ [])) (low b [] o invalid (no-mark invalid (omega arith)))
 implies-like b (c ∷ bs) o = go (is_class minus c) refl
   where
     go : (x : Bool) → is_class minus c ≡ x → TokenLike b (c ∷ bs) (implies_token b (c ∷ bs) (length (b ∷ c ∷ bs)))
     go true q =
         let m : class_number (class_of c) ≡ 7 = eqb-true (class_number (class_of c)) 7 q in
         rw (q, implies_token)
-        (record { alike = low b (c ∷ bs) o implies (omega arith); plain = (other_byte c (λ e. omega arith) (λ e. omega arith) (λ e. omega arith), tt) })
-    go false q = rw (q, implies_token) (one_byte b (c ∷ bs) invalid (length (b ∷ c ∷ bs)) (low b (c ∷ bs) o invalid (omega arith)))
+        (record { alike = low b (c ∷ bs) o implies (no-mark implies (omega arith)); plain = (other_byte c (λ e. omega arith) (λ e. omega arith) (λ e. omega arith), tt) })
+    go false q = rw (q, implies_token) (one_byte b (c ∷ bs) invalid (length (b ∷ c ∷ bs)) (low b (c ∷ bs) o invalid (no-mark invalid (omega arith))))
 
 token-like : (b : ℕ) (bs : List ℕ) (c : Class) → class_of b ≡ c → TokenLike b bs (token_from c b bs)
 unfolding token_from
 token-like b bs letter e =
     let z : length (b ∷ take 15 (longest word_byte bs)) - 1 ≡ length (take 15 (longest word_byte bs)) = omega arith in
-    record { alike = low b bs (low-class b letter e (omega arith)) name (omega arith); plain = subst (λ n. Plain n bs) (sym z) (plain-longest word_byte word-other 15 bs) }
+    record { alike = low b bs (low-class b letter e (omega arith)) name (no-mark name (omega arith)); plain = subst (λ n. Plain n bs) (sym z) (plain-longest word_byte word-other 15 bs) }
 token-like b bs zero_digit e = number-like b bs (low-class b zero_digit e (omega arith))
 token-like b bs digit e = number-like b bs (low-class b digit e (omega arith))
 token-like b bs underscore e = variable-like b bs (low-class b underscore e (omega arith)) (numeral bs) (plain-numeral bs)
 token-like b bs colon e = implies-like b bs (low-class b colon e (omega arith))
 token-like b bs (mark k) e = one_byte b bs k (length (b ∷ bs)) (mark-alike b k e)
-token-like b bs minus e = one_byte b bs invalid (length (b ∷ bs)) (low b bs (low-class b minus e (omega arith)) invalid (omega arith))
-token-like b bs space e = one_byte b bs invalid (length (b ∷ bs)) (low b bs (low-class b space e (omega arith)) invalid (omega arith))
-token-like b bs no_class e = one_byte b bs invalid (length (b ∷ bs)) (low b bs (low-class b no_class e (omega arith)) invalid (omega arith))
+token-like b bs minus e = negative-like b bs (low-class b minus e (omega arith)) (numeral bs) (plain-numeral bs)
+token-like b bs space e = one_byte b bs invalid (length (b ∷ bs)) (low b bs (low-class b space e (omega arith)) invalid (no-mark invalid (omega arith)))
+token-like b bs no_class e = one_byte b bs invalid (length (b ∷ bs)) (low b bs (low-class b no_class e (omega arith)) invalid (no-mark invalid (omega arith)))
 
 -- What is counted by bytes and by tokens.
 record Agree (ts us : List Token) : Type 0 where

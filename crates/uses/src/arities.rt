@@ -29,7 +29,7 @@ pub fn declared(text: Readable, names: &Names<u16, ROOM>) -> [Option<u16>; 4096]
     let mut found = [None; 4096];
     for d in Walk::new(text) {
         let j = names.find(&text.text[d.from..d.to]);
-        put(&mut found, j, d.arity);
+        put(&mut found, j, d.symbol.arity());
     }
     found
 }

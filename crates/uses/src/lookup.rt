@@ -5,13 +5,13 @@ ghost use Rattle.uses.specs.Uses.{takes};
 
 use naming::table::DeclaredNames;
 
-// Whether the name of those bytes is declared with that many arguments. The table has words, as encoding writes them: an arity, plus 256 for a predicate; `signature::arity` reads the words of a deck, and there is none yet.
+// Whether the name of those bytes is declared with that many arguments.
 // A `match` (c): with `is_some_and` the two cases, each by its own lemma, are one goal, `returns`, which stayed open.
 pub fn takes(names: DeclaredNames, bytes: &[u8], arguments: u16) -> bool
     ensures { result ≡ takes (text_declarations names.entry.all.text.text.now) bytes.now arguments }
 {
     match names.names.find(bytes) {
-        Some(j) => names.names.get(j).value % 256 == arguments,
+        Some(j) => names.names.get(j).value.arity() == arguments,
         None => false,
     }
 }

@@ -1,23 +1,29 @@
 -- An opened deck: its symbols and clauses as the code finds them, and what writing it comes to.
 use Prim.Native.Nat.{ℕ, zero, suc, ◌+◌, ◌*◌, ◌%◌, ◌≤◌, ◌<◌}
 use mathlib.Core.Path.{◌≡◌, refl, ap, sym, ◌∙◌}
-use mathlib.Core.Bool.{true}
+use mathlib.Core.Bool.{Bool, true, false}
+use mathlib.Core.Option.{Option, none, some, some-injective}
+use lib.Dec.{eqb}
 use mathlib.Core.List.{List, [], ◌++◌}
 use native.Mathlib.Omega.{arith}
 use lib.ListN.{length, drop, length-append, length-map}
 use lib.Seq.{sets, sets-eq}
 use borrow.Author.Tests.{le-leb, lt-leb}
 use Rattle.std.specs.Prelude.{sum_by}
+use Rattle.std.specs.Prelude.{Option as Code, Some, None}
 use Rattle.std.specs.List.{range_with_len}
 use Rattle.std.proofs.lemmas.List.Sums.{sum_by-cons}
-use Rattle.rules.specs.Syntax.{Deck, vars_literals}
+use Rattle.rules.specs.Syntax.{format1, Deck, vars_literals}
 use Rattle.rules.specs.Refusals.{Refusal, no_room, refused, accepted, and_then, require, checked_number}
-use Rattle.rules.specs.Decks.{header_fits, symbol_words, clause_words, term_cells, write_clause, open_deck}
+use Rattle.rules.specs.Decks.{header, header_fits, symbol_part, read_values, read_format, symbol_words, clause_words, term_cells, write_clause, open_deck}
 use Rattle.rules.specs.WellFormed.{All, clause_literals}
-use Rattle.text_rules.specs.TextWriter.{symbol_text, symbols_text, clause_text, clauses_text, deck_text}
+use Rattle.rules.specs.Column.{number_word}
+use Rattle.text_rules.specs.TextWriter.{symbols_text, clause_text, clauses_text, deck_text}
 use Rattle.text_rules.specs.Text.{write_text}
 use Rattle.rules.proofs.CellLaws.{Small, literals-length, literals-vars, in_order-small}
-use Rattle.rules.proofs.DeckLaws.{steps-open, opened-written}
+use Rattle.rules.proofs.DeckLaws.{fit-facts, steps-open, opened-written}
+use Rattle.rules.proofs.SymbolLaws.{kept-distinct}
+use Rattle.deck.specs.Pairs.{known_word}
 use Rattle.rules.proofs.DeckWords.{ClauseAt, opened-words, clause-at}
 use Rattle.signature.specs.Symbols.{symbol_word}
 use Rattle.deck.specs.Kinds.{symbol_of, symbols_of}
@@ -25,10 +31,10 @@ use Rattle.deck.specs.Rows.{row_at}
 use Rattle.deck.proofs.OpenLaws.{accepted-deck, accepted-symbols}
 use Rattle.deck.proofs.PartLaws as part
 use Rattle.listing.specs.Put.{Put}
-use Rattle.writing.specs.Writes.{bytes_of, text_after, Wrote, opened_as, deck_of, Opens, symbols_in}
+use Rattle.writing.specs.Writes.{bytes_of, text_after, Wrote, opened_as, deck_of, format_of, is_second, Opens, symbols_in, line_at}
 use Rattle.writing.specs.Literals.{LiteralsAt}
 use Rattle.writing.specs.Lengths.{KnownSymbols, literal_cells, body_bytes, clause_bytes, clause_bytes_at, symbol_bytes_at}
-use Rattle.writing.proofs.LengthLaws.{clause-bytes, row-short as cells-short, symbol-line}
+use Rattle.writing.proofs.LengthLaws.{clause-bytes, row-short as cells-short, line-none, line-some, value-short}
 use Rattle.listing.proofs.DigitLaws.{decimal-length}
 use Rattle.writing.proofs.TextParts.{symbols-next, symbols-end, clauses-next, clauses-end}
 
@@ -118,22 +124,60 @@ module _ (ws : List ℕ) (k : checked_number (open_deck ws) ≡ 0) where
         omega (arith, next.1, clause-short i h, b, text, parts),
       )
 
+  -- The format, and the values.
+  pub long-enough : 8 ≤ length ws
+  long-enough = (fit-facts ws header-fits).long
+
+  pub second-format : eqb (header ws 0) 2 ≡ is_second (format_of ws)
+  unfolding read_format
+  second-format = go (eqb (header ws 0) 2) refl (steps-open ws (deck_of ws) o).format
+    where
+      go : (b : Bool) → eqb (header ws 0) 2 ≡ b → read_format ws ≡ some (format_of ws) → eqb (header ws 0) 2 ≡ is_second (format_of ws)
+      go true e f =
+          let k = kept-distinct (read_values (symbol_part ws)) (format_of ws) (rw (e, read_format) at f) in
+          e ∙ ap is_second k.3
+      go false e f = e ∙ ap is_second (some-injective format1 (format_of ws) (rw (e, read_format) at f))
+
+  module _ (ws' : List ℕ) (same : ws' ≡ ws) (n : ℕ) (r : Code ℕ) (h : (d : Deck) → open_deck ws' ≡ accepted d → r ≡ known_word (number_word d.format n)) where
+    value-word : r ≡ known_word (number_word (format_of ws) n)
+    value-word = h (deck_of ws) (ap open_deck same ∙ o)
+
+    pub value-some : (w : ℕ) → r ≡ Some w → number_word (format_of ws) n ≡ some w
+    value-some w e = go (number_word (format_of ws) n) (sym value-word ∙ e)
+      where
+        go : (v : Option ℕ) → known_word v ≡ Some w → v ≡ some w
+        go none q = cc
+        go (some x) q = let z : x ≡ w = cc in ap {B = Option ℕ} some z
+
+    pub value-none : r ≡ None → number_word (format_of ws) n ≡ none
+    value-none e = go (number_word (format_of ws) n) (sym value-word ∙ e)
+      where
+        go : (v : Option ℕ) → known_word v ≡ None → v ≡ none
+        go none q = refl
+        go (some x) q = cc
+
   -- The bytes of the lines of so many symbols from symbol i on.
-  symbol-short : (i : ℕ) → i < length (symbol_words ws) → symbol_bytes_at ws i ≤ 17
-  symbol-short i h =
-      let w = symbol_word (symbol_words ws) i in
-      omega (arith, symbol-line w i, decimal-length 4 i (omega (arith, few-symbols)), decimal-length 4 (w % 256) (omega arith))
+  symbol-short : (i : ℕ) → i < length (symbol_words ws) → symbol_bytes_at ws i ≤ 18
+  symbol-short i h = go (number_word (format_of ws) i) refl
+    where
+      w : ℕ
+      w = symbol_word (symbol_words ws) i
+
+      go : (v : Option ℕ) → number_word (format_of ws) i ≡ v → symbol_bytes_at ws i ≤ 18
+      go none e =
+          omega (arith, line-none w i (number_word (format_of ws) i) e, decimal-length 4 i (omega (arith, few-symbols)), decimal-length 4 (w % 256) (omega arith))
+      go (some v) e = omega (arith, line-some w i v (number_word (format_of ws) i) e, decimal-length 4 i (omega (arith, few-symbols)), value-short v)
 
   pub symbols-sum :
-      (n i : ℕ) → i + n ≡ length (symbol_words ws) → let rest = length (symbols_text i (symbols_of (drop i (symbol_words ws))) []) in
-      (sum_by (symbol_bytes_at ws) (range_with_len i n) ≡ rest) × (rest ≤ 17 * n)
-  symbols-sum zero i e = let z = ap length (symbols-end (symbol_words ws) i (omega (arith, e))) in (sym z, omega (arith, z))
+      (n i : ℕ) → i + n ≡ length (symbol_words ws) → let rest = length (symbols_text (format_of ws) i (symbols_of (drop i (symbol_words ws))) []) in
+      (sum_by (symbol_bytes_at ws) (range_with_len i n) ≡ rest) × (rest ≤ 18 * n)
+  symbols-sum zero i e = let z = ap length (symbols-end (format_of ws) (symbol_words ws) i (omega (arith, e))) in (sym z, omega (arith, z))
   symbols-sum (suc n) i e =
       let us = symbol_words ws in
       let h : i < length us = omega (arith, e) in
       let next = symbols-sum n (i + 1) (omega (arith, e)) in
-      let text = ap length (symbols-next us i h) in
-      let parts = length-append (symbol_text (symbol_of (symbol_word us i)) i []) (symbols_text (i + 1) (symbols_of (drop (i + 1) us)) []) in (
+      let text = ap length (symbols-next (format_of ws) us i h) in
+      let parts = length-append (line_at ws i) (symbols_text (format_of ws) (i + 1) (symbols_of (drop (i + 1) us)) []) in (
         omega (arith, sum_by-cons (symbol_bytes_at ws) i (range_with_len (i + 1) n), next.0, text, parts),
         omega (arith, next.1, symbol-short i h, text, parts),
       )

@@ -16,7 +16,7 @@ use Rattle.rules.specs.Cells.{Cell, variable, function, positive, negative, inva
 use Rattle.rules.specs.Decks.{write_clause}
 use Rattle.rules.specs.WellFormed.{All, WfSymbol, WfTerm, WfTerms, WfLiterals, clause_literals}
 use Rattle.rules.specs.Listing.{digits, decimal}
-use Rattle.text_rules.specs.TextWriter.{symbol_text, literal_text, literals_text, body_text, clause_text}
+use Rattle.text_rules.specs.TextWriter.{symbol_text, value_text, number_text, symbol_line, literal_text, literals_text, body_text, clause_text}
 use Rattle.rules.proofs.CellLaws.{Small, Written, cell-written, read_cell-var, after-term, after-terms, cell-symbol, cell-negated, cell-variable}
 use Rattle.deck.specs.Kinds.{symbol_of, kind_of, begins_literal}
 use Rattle.deck.specs.declared.kinds.Kind.{Kind}
@@ -26,7 +26,7 @@ use Rattle.listing.specs.Digits.{weight_at}
 use Rattle.listing.proofs.DigitLaws.{weight-positive, power_weight, decimal-append, decimal-length, one-digit, more-digits}
 use Rattle.writing.specs.Writes.{line_text}
 use Rattle.writing.specs.Lengths.{name_bytes, bracket_bytes, cell_bytes, literal_cell, row_bytes, literal_cells, body_bytes, clause_bytes}
-use Rattle.writing.proofs.TextParts.{positive-text, negative-text, no-literals, no_body, literals-parts, body-parts, clause-parts, line-parts, functor-text, predicate-text}
+use Rattle.writing.proofs.TextParts.{number-parts, value-small, value-negative, positive-text, negative-text, no-literals, no_body, literals-parts, body-parts, clause-parts, line-parts, functor-text, predicate-text}
 
 -- A number from ten to the k up to ten to the k + 1 has k + 1 digits.
 digits-many : (k n more : ℕ) (rest : List ℕ) → weight_at k ≤ n → n < weight_at (suc k) → n ≤ more → length (digits (suc more) n rest) ≡ suc k + length rest
@@ -75,6 +75,33 @@ symbol-line w n = go (leb 256 w) refl
     go : (b : Bool) → leb 256 w ≡ b → length (symbol_text (symbol_of w) n []) ≡ 7 + length (decimal n []) + length (decimal (w % 256) [])
     go true e = ap length (predicate-text w n e) ∙ line-length 112 114 32 n (w % 256)
     go false e = ap length (functor-text w n e) ∙ line-length 102 110 32 n (w % 256)
+
+pub number-line : (w n : ℕ) → length (number_text w n []) ≡ 7 + length (decimal n []) + length (value_text w [])
+number-line w n =
+    omega (
+      arith,
+      ap length (number-parts w n),
+      length-append (decimal n []) ((32 ∷ value_text w []) ++ (46 ∷ 10 ∷ [])),
+      length-append (value_text w []) (46 ∷ 10 ∷ []),
+    )
+
+pub value-short : (w : ℕ) → length (value_text w []) ≤ 6
+value-short w = go (dec_lt w 32768)
+  where
+    go : Dec (w < 32768) → length (value_text w []) ≤ 6
+    go (yes h) = omega (arith, ap length (value-small w h), decimal-length 4 w (omega arith))
+    go (no h) = omega (arith, ap length (value-negative w (omega arith)), decimal-length 4 (65536 - w) (omega arith))
+
+-- The line of a symbol that is no number, and of one that is.
+pub line-none : (w n : ℕ) (o : Option ℕ) → o ≡ none → length (symbol_line (symbol_of w) o n []) ≡ 7 + length (decimal n []) + length (decimal (w % 256) [])
+unfolding symbol_line
+line-none w n none e = symbol-line w n
+line-none w n (some v) e = absurd (none-ne-some v (sym e))
+
+pub line-some : (w n v : ℕ) (o : Option ℕ) → o ≡ some v → length (symbol_line (symbol_of w) o n []) ≡ 7 + length (decimal n []) + length (value_text v [])
+unfolding symbol_line
+line-some w n v none e = absurd (none-ne-some v e)
+line-some w n v (some x) e = number-line x n ∙ ap (λ k. 7 + length (decimal n []) + length (value_text k [])) (some-injective x v e)
 
 -- The number of terms that follow a cell.
 abbrev pub arity_of : Kind → ℕ

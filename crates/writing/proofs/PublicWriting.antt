@@ -1,6 +1,6 @@
 -- What the contract of `write_text` says: the text can be read as the deck's words again, so that two decks have two texts.
 use Prim.Native.Nat.{ℕ, ◌+◌, ◌≤◌, ◌<◌}
-use mathlib.Core.Path.{◌≡◌, refl, ap, sym, ◌∙◌}
+use mathlib.Core.Path.{◌≡◌, refl, ap, sym, ◌∙◌, subst}
 use mathlib.Core.Bool.{Bool, true, false, ◌&&◌}
 use mathlib.Core.List.{List, ◌++◌}
 use native.Mathlib.Omega.{arith}
@@ -14,10 +14,11 @@ use borrow.Fn.World.{ArgsD}
 use Rattle.rules.specs.Syntax.{Deck}
 use Rattle.rules.specs.Refusals.{Refusal, no_room, Checked, refused, accepted, and_then, require}
 use Rattle.rules.specs.Decks.{open_deck}
+use Rattle.rules.specs.WellFormed.{All}
 use Rattle.text_rules.specs.TextWriter.{deck_text}
 use Rattle.text_rules.specs.Text.{absent, read_text, write_text}
 use Rattle.rules.proofs.DeckLaws.{opened-written}
-use Rattle.text_rules.proofs.TextRead.{text-again, text-readable, text-words}
+use Rattle.text_rules.proofs.TextRead.{text-again, deck-small, text-readable, text-words}
 use Rattle.deck.specs.Answers.{refusal_for}
 use Rattle.deck.specs.declared.Refusal.{Refusal as Why}
 use Rattle.std.specs.Prelude.{Ok, Err}
@@ -74,34 +75,34 @@ module _ (words before : List ℕ) (n : ℕ) (after : List ℕ) (w : Wrote words
       ap (drop n) t.whole ∙ drop_at (deck_text t.deck) (drop n before) n t.bytes
 
   -- READING WHAT WAS WRITTEN gives the deck's words again, in any list with room for them; in a shorter one it is refused with 11.
-  pub read_again : (room : ℕ) → length words ≤ room → read_text (take n after) room ≡ accepted words
-  read_again room h =
+  pub read_again : All (λ w. w < 65536) words → (room : ℕ) → length words ≤ room → read_text (take n after) room ≡ accepted words
+  read_again a room h =
       let t = text-written words before n after w in
-      ap (λ (x : List ℕ). read_text x room) front ∙ (text-again words t.deck t.opens (length (deck_text t.deck)) room (omega arith) h).1
+      ap (λ (x : List ℕ). read_text x room) front ∙ (text-again words t.deck t.opens a (length (deck_text t.deck)) room (omega arith) h).1
 
-  pub read_short : (room : ℕ) → room < length words → read_text (take n after) room ≡ refused no_room
+  pub read_short : All (λ w. w < 65536) words → (room : ℕ) → room < length words → read_text (take n after) room ≡ refused no_room
   unfolding read_text and_then require absent
-  read_short room h =
+  read_short a room h =
       let t = text-written words before n after w in
       let d = t.deck in
       let o = opened-written words d t.opens in
       let few : (leb (length words) room && leb (length words) 16384) ≡ false = ap (◌&& leb (length words) 16384) (lt-leb (length words) room h) in
-      ap (λ (x : List ℕ). read_text x room) front ∙ rw (text-readable d o.1, text-words d o.1, ← o.0, few) refl
+      ap (λ (x : List ℕ). read_text x room) front ∙ (let small = deck-small d o.1 (subst (All (λ w. w < 65536)) o.0 a) in rw (text-readable d o.1 small, text-words d o.1 small, ← o.0, few) refl)
 
 -- TWO DECKS HAVE TWO TEXTS: where the bytes are the same, so are the words.
 pub same-text-same-deck :
-    (words before : List ℕ) (n : ℕ) (after : List ℕ) → Wrote words before (accepted n) after
-    → (words' before' : List ℕ) (n' : ℕ) (after' : List ℕ) → Wrote words' before' (accepted n') after' → take n after ≡ take n' after' → words ≡ words'
-same-text-same-deck words before n after w words' before' n' after' w' e =
+    (words before : List ℕ) (n : ℕ) (after : List ℕ) → Wrote words before (accepted n) after → All (λ w. w < 65536) words
+    → (words' before' : List ℕ) (n' : ℕ) (after' : List ℕ) → Wrote words' before' (accepted n') after' → All (λ w. w < 65536) words' → take n after ≡ take n' after' → words ≡ words'
+same-text-same-deck words before n after w a words' before' n' after' w' a' e =
     let room = length words + length words' in
-    accepted-same (sym (read_again words before n after w room (omega arith)) ∙ ap (λ (x : List ℕ). read_text x room) e ∙ read_again words' before' n' after' w' room (omega arith))
+    accepted-same (sym (read_again words before n after w a room (omega arith)) ∙ ap (λ (x : List ℕ). read_text x room) e ∙ read_again words' before' n' after' w' a' room (omega arith))
 
 -- Openable decks, without the call.
-pub decks-apart : (words words' : List ℕ) (d d' : Deck) → open_deck words ≡ accepted d → open_deck words' ≡ accepted d' → deck_text d ≡ deck_text d' → words ≡ words'
-decks-apart words words' d d' o o' e =
+pub decks-apart : (words words' : List ℕ) (d d' : Deck) → open_deck words ≡ accepted d → open_deck words' ≡ accepted d' → All (λ w. w < 65536) words → All (λ w. w < 65536) words' → deck_text d ≡ deck_text d' → words ≡ words'
+decks-apart words words' d d' o o' s s' e =
     let room = length words + length words' in
-    let a = (text-again words d o (length (deck_text d)) room (omega arith) (omega arith)).1 in
-    let b = (text-again words' d' o' (length (deck_text d')) room (omega arith) (omega arith)).1 in
+    let a = (text-again words d o s (length (deck_text d)) room (omega arith) (omega arith)).1 in
+    let b = (text-again words' d' o' s' (length (deck_text d')) room (omega arith) (omega arith)).1 in
     accepted-same (sym a ∙ ap (λ (x : List ℕ). read_text x room) e ∙ b)
 
 -- The same of the generated reading of the contract (`Post`).
@@ -109,7 +110,7 @@ module _ (κs : Lfts 2) (entry : ArgsD signature κs) (exit : AtExit ended κs) 
   pub public-refused-untouched : (why : Why) → Post κs entry (Err why) exit → exit.1.0.now ≡ entry.1.0.now
   public-refused-untouched why post = refused-untouched entry.0.now entry.1.0.now (refusal_for why) exit.1.0.now post
 
-  pub public-read-again : (n : ℕ) → Post κs entry (Ok n) exit → (room : ℕ) → length entry.0.now ≤ room → read_text (take n exit.1.0.now) room ≡ accepted entry.0.now
+  pub public-read-again : (n : ℕ) → Post κs entry (Ok n) exit → All (λ w. w < 65536) entry.0.now → (room : ℕ) → length entry.0.now ≤ room → read_text (take n exit.1.0.now) room ≡ accepted entry.0.now
   public-read-again n post = read_again entry.0.now entry.1.0.now n exit.1.0.now post
 
   pub public-untouched : (n : ℕ) → Post κs entry (Ok n) exit → drop n exit.1.0.now ≡ drop n entry.1.0.now

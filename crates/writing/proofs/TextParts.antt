@@ -1,23 +1,26 @@
 -- A deck's text in the parts that the code writes one after another.
-use Prim.Native.Nat.{ℕ, suc, ◌+◌, ◌%◌, ◌≤◌, ◌<◌}
+use Prim.Native.Nat.{ℕ, suc, ◌+◌, ◌-◌, ◌%◌, ◌≤◌, ◌<◌}
 use mathlib.Core.Path.{◌≡◌, refl, ap, sym, ◌∙◌}
-use mathlib.Core.Bool.{true, false}
+use mathlib.Core.Bool.{Bool, true, false}
+use mathlib.Core.Option.{Option, none, some, none-ne-some, some-injective}
+use borrow.Author.Tests.{lt-ltb, le-ltb}
 use mathlib.Core.List.{List, [], ◌∷◌, ◌++◌, append_assoc, append-nil}
 use native.Mathlib.Numerals.{add-one}
-use lib.Dec.{leb}
+use lib.Dec.{leb, ltb}
 use lib.ListN.{length, get_or, drop, drop_of_length-le}
 use lib.Seq.{drop-cons}
 use Rattle.rules.specs.Terms.{Term, var, app, Terms, nil, cons}
-use Rattle.rules.specs.Syntax.{Symbol, functor, predicate, Literal, pos, neg, Clause, Deck}
+use Rattle.rules.specs.Syntax.{Symbol, functor, predicate, Literal, pos, neg, Clause, Format, format1, format2, Deck}
+use Rattle.rules.specs.Column.{number_word}
 use Rattle.rules.specs.Listing.{decimal}
-use Rattle.text_rules.specs.TextGrammar.{fn_text, pr_text}
-use Rattle.text_rules.specs.TextWriter.{name_text, declaration_text, symbol_text, symbols_text, term_text, arguments_text, more_text, literal_text, literals_text, body_text, clause_text, clauses_text, deck_text}
+use Rattle.text_rules.specs.TextGrammar.{fn_text, pr_text, nu_text, v2_text}
+use Rattle.text_rules.specs.TextWriter.{name_text, declaration_text, symbol_text, value_text, number_text, symbol_line, symbols_text, format_text, term_text, arguments_text, more_text, literal_text, literals_text, body_text, clause_text, clauses_text, deck_text}
 use Rattle.deck.specs.Kinds.{symbol_of, symbols_of}
 use Rattle.deck.proofs.SymbolLaws.{kind-functor, kind-predicate}
 use Rattle.listing.specs.Standing.{show_term, show_arguments, show_more}
 use Rattle.listing.proofs.DigitLaws.{decimal-append}
 use Rattle.listing.proofs.PrintLaws.{show-append}
-use Rattle.writing.specs.Writes.{line_text}
+use Rattle.writing.specs.Writes.{is_second, line_text}
 
 -- Terms are shown with the sign `_`.
 mutual
@@ -131,22 +134,83 @@ symbol-append (functor k) n rest =
 symbol-append (predicate k) n rest =
     predicate-line k n rest ∙ ap (◌++ rest) (sym (append-nil (line_text (112 ∷ 114 ∷ 32 ∷ []) n k)) ∙ sym (predicate-line k n []))
 
-no-symbols : (n : ℕ) → symbols_text n [] [] ≡ []
-unfolding symbols_text
-no-symbols n = refl
+-- A number's line.
+value-append : (w : ℕ) (xs rest : List ℕ) → value_text w (xs ++ rest) ≡ value_text w xs ++ rest
+unfolding value_text
+value-append w xs rest = go (ltb w 32768) refl
+  where
+    go : (b : Bool) → ltb w 32768 ≡ b → value_text w (xs ++ rest) ≡ value_text w xs ++ rest
+    go true e = rw (e, value_text) (decimal-append w xs rest)
+    go false e = rw (e, value_text) (ap {B = List ℕ} (λ x. 45 ∷ x) (decimal-append (65536 - w) xs rest))
 
-symbols-parts : (n : ℕ) (s : Symbol) (ss : List Symbol) → symbols_text n (s ∷ ss) [] ≡ symbol_text s n [] ++ symbols_text (suc n) ss []
-unfolding symbols_text
-symbols-parts n s ss = symbol-append s n (symbols_text (suc n) ss [])
+number-append : (w n : ℕ) (rest : List ℕ) → number_text w n rest ≡ number_text w n [] ++ rest
+unfolding number_text name_text nu_text
+number-append w n rest =
+    ap {B = List ℕ} (λ x. 110 ∷ 117 ∷ 32 ∷ 115 ∷ x)
+    (ap (decimal n) (ap {B = List ℕ} (λ x. 32 ∷ x) (value-append w (46 ∷ 10 ∷ []) rest)) ∙ decimal-append n (32 ∷ value_text w (46 ∷ 10 ∷ [])) rest)
 
-symbols-append : (n : ℕ) (ss : List Symbol) (rest : List ℕ) → symbols_text n ss rest ≡ symbols_text n ss [] ++ rest
+pub number-parts : (w n : ℕ) → number_text w n [] ≡ (110 ∷ 117 ∷ 32 ∷ []) ++ ((115 ∷ decimal n []) ++ ((32 ∷ value_text w []) ++ (46 ∷ 10 ∷ [])))
+unfolding number_text name_text nu_text
+number-parts w n =
+    ap {B = List ℕ} (λ x. 110 ∷ 117 ∷ 32 ∷ 115 ∷ x)
+    (ap (decimal n) (ap {B = List ℕ} (λ x. 32 ∷ x) (value-append w [] (46 ∷ 10 ∷ []))) ∙ decimal-append n [] (32 ∷ (value_text w [] ++ (46 ∷ 10 ∷ []))))
+
+pub value-small : (w : ℕ) → w < 32768 → value_text w [] ≡ decimal w []
+unfolding value_text
+value-small w h = rw (lt-ltb w 32768 h, value_text) refl
+
+pub value-negative : (w : ℕ) → 32768 ≤ w → value_text w [] ≡ 45 ∷ decimal (65536 - w) []
+unfolding value_text
+value-negative w h = rw (le-ltb w 32768 h, value_text) refl
+
+line-behind : (s : Symbol) (o : Option ℕ) (n : ℕ) (rest : List ℕ) → symbol_line s o n rest ≡ symbol_line s o n [] ++ rest
+unfolding symbol_line
+line-behind s none n rest = symbol-append s n rest
+line-behind s (some w) n rest = number-append w n rest
+
+pub plain-line : (s : Symbol) (o : Option ℕ) (n : ℕ) → o ≡ none → symbol_line s o n [] ≡ symbol_text s n []
+unfolding symbol_line
+plain-line s none n e = refl
+plain-line s (some w) n e = absurd (none-ne-some w (sym e))
+
+pub value-line : (s : Symbol) (o : Option ℕ) (n w : ℕ) → o ≡ some w → symbol_line s o n [] ≡ number_text w n []
+unfolding symbol_line
+value-line s none n w e = absurd (none-ne-some w e)
+value-line s (some x) n w e = ap (λ k. number_text k n []) (some-injective x w e)
+
+no-symbols : (F : Format) (n : ℕ) → symbols_text F n [] [] ≡ []
 unfolding symbols_text
-symbols-append n [] rest = refl
-symbols-append n (s ∷ ss) rest =
-    ap (symbol_text s n) (symbols-append (suc n) ss rest)
-    ∙ symbol-append s n (symbols_text (suc n) ss [] ++ rest)
-    ∙ sym (append_assoc (symbol_text s n []) (symbols_text (suc n) ss []) rest)
-    ∙ ap (◌++ rest) (sym (symbols-parts n s ss))
+no-symbols F n = refl
+
+symbols-parts : (F : Format) (n : ℕ) (s : Symbol) (ss : List Symbol) → symbols_text F n (s ∷ ss) [] ≡ symbol_line s (number_word F n) n [] ++ symbols_text F (suc n) ss []
+unfolding symbols_text
+symbols-parts F n s ss = line-behind s (number_word F n) n (symbols_text F (suc n) ss [])
+
+symbols-append : (F : Format) (n : ℕ) (ss : List Symbol) (rest : List ℕ) → symbols_text F n ss rest ≡ symbols_text F n ss [] ++ rest
+unfolding symbols_text
+symbols-append F n [] rest = refl
+symbols-append F n (s ∷ ss) rest =
+    let line = symbol_line s (number_word F n) n in
+    ap line (symbols-append F (suc n) ss rest)
+    ∙ line-behind s (number_word F n) n (symbols_text F (suc n) ss [] ++ rest)
+    ∙ sym (append_assoc (line []) (symbols_text F (suc n) ss []) rest)
+    ∙ ap (◌++ rest) (sym (symbols-parts F n s ss))
+
+-- The line of the format.
+format-append : (F : Format) (rest : List ℕ) → format_text F rest ≡ format_text F [] ++ rest
+unfolding format_text v2_text
+format-append format1 rest = refl
+format-append (format2 vs) rest = refl
+
+pub format-line : (F : Format) → is_second F ≡ true → format_text F [] ≡ 118 ∷ 50 ∷ 46 ∷ 10 ∷ []
+unfolding format_text v2_text
+format-line format1 e = cc
+format-line (format2 vs) e = refl
+
+pub no-format-line : (F : Format) → is_second F ≡ false → format_text F [] ≡ []
+unfolding format_text
+no-format-line format1 e = refl
+no-format-line (format2 vs) e = cc
 
 -- The line of a symbol word, and the lines from a symbol on.
 pub functor-text : (w n : ℕ) → leb 256 w ≡ false → symbol_text (symbol_of w) n [] ≡ line_text (102 ∷ 110 ∷ 32 ∷ []) n (w % 256)
@@ -158,16 +222,16 @@ predicate-text w n h =
     ap (λ (s : Symbol). symbol_text s n []) (kind-predicate w h) ∙ predicate-line (w % 256) n [] ∙ append-nil (line_text (112 ∷ 114 ∷ 32 ∷ []) n (w % 256))
 
 pub symbols-next :
-    (ws : List ℕ) (i : ℕ) → i < length ws
-    → symbols_text i (symbols_of (drop i ws)) [] ≡ symbol_text (symbol_of (get_or ws i 0)) i [] ++ symbols_text (i + 1) (symbols_of (drop (i + 1) ws)) []
+    (F : Format) (ws : List ℕ) (i : ℕ) → i < length ws
+    → symbols_text F i (symbols_of (drop i ws)) [] ≡ symbol_line (symbol_of (get_or ws i 0)) (number_word F i) i [] ++ symbols_text F (i + 1) (symbols_of (drop (i + 1) ws)) []
 unfolding symbols_of
-symbols-next ws i h =
+symbols-next F ws i h =
     rw (add-one i)
-    (ap (λ (l : List ℕ). symbols_text i (symbols_of l) []) (drop-cons ws i 0 h) ∙ symbols-parts i (symbol_of (get_or ws i 0)) (symbols_of (drop (suc i) ws)))
+    (ap (λ (l : List ℕ). symbols_text F i (symbols_of l) []) (drop-cons ws i 0 h) ∙ symbols-parts F i (symbol_of (get_or ws i 0)) (symbols_of (drop (suc i) ws)))
 
-pub symbols-end : (ws : List ℕ) (i : ℕ) → length ws ≤ i → symbols_text i (symbols_of (drop i ws)) [] ≡ []
+pub symbols-end : (F : Format) (ws : List ℕ) (i : ℕ) → length ws ≤ i → symbols_text F i (symbols_of (drop i ws)) [] ≡ []
 unfolding symbols_of
-symbols-end ws i h = ap (λ (l : List ℕ). symbols_text i (symbols_of l) []) (drop_of_length-le ws {i = i} h) ∙ no-symbols i
+symbols-end F ws i h = ap (λ (l : List ℕ). symbols_text F i (symbols_of l) []) (drop_of_length-le ws {i = i} h) ∙ no-symbols F i
 
 -- The clauses from a clause on.
 pub clauses-next : (cs : List Clause) (i : ℕ) (c : Clause) → drop i cs ≡ c ∷ drop (i + 1) cs → clauses_text (drop i cs) ≡ clause_text c [] ++ clauses_text (drop (i + 1) cs)
@@ -176,6 +240,10 @@ clauses-next cs i c e = ap clauses_text e ∙ clauses-parts c (drop (i + 1) cs)
 pub clauses-end : (cs : List Clause) (i : ℕ) → length cs ≤ i → clauses_text (drop i cs) ≡ []
 clauses-end cs i h = ap clauses_text (drop_of_length-le cs {i = i} h) ∙ no-clauses
 
-pub deck-parts : (d : Deck) → deck_text d ≡ symbols_text 0 d.symbols [] ++ clauses_text d.clauses
+pub deck-parts : (d : Deck) → deck_text d ≡ (format_text d.format [] ++ symbols_text d.format 0 d.symbols []) ++ clauses_text d.clauses
 unfolding deck_text
-deck-parts d = symbols-append 0 d.symbols (clauses_text d.clauses)
+deck-parts d =
+    let lines = symbols_text d.format 0 d.symbols [] in
+    format-append d.format (symbols_text d.format 0 d.symbols (clauses_text d.clauses))
+    ∙ ap (format_text d.format [] ++◌) (symbols-append d.format 0 d.symbols (clauses_text d.clauses))
+    ∙ sym (append_assoc (format_text d.format []) lines (clauses_text d.clauses))

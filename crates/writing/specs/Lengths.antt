@@ -2,16 +2,14 @@
 use Rattle.std.specs.Prelude.{ℕ, zero, suc, ◌+◌, ◌-◌, List, [], ◌∷◌, length, cond}
 use Rattle.rules.specs.Syntax.{Symbol}
 use Rattle.rules.specs.Cells.{read_cell}
-use Rattle.rules.specs.Decks.{symbol_words, clause_words, term_cells}
+use Rattle.rules.specs.Decks.{clause_words, term_cells}
 use Rattle.rules.specs.WellFormed.{All, WfSymbol}
 use Rattle.rules.specs.Listing.{decimal}
-use Rattle.text_rules.specs.TextWriter.{symbol_text}
-use Rattle.signature.specs.Symbols.{symbol_word}
-use Rattle.deck.specs.Kinds.{symbol_of, symbols_of, kind_of, begins_literal}
+use Rattle.deck.specs.Kinds.{symbols_of, kind_of, begins_literal}
 use Rattle.deck.specs.Rows.{row_at}
 use Rattle.deck.specs.declared.kinds.Kind.{Kind}
 use Rattle.deck.specs.declared.kinds.Kind.TheVariants.{Variable, Function, Positive, Negative, Invalid}
-use Rattle.writing.specs.Writes.{symbols_in}
+use Rattle.writing.specs.Writes.{symbols_in, line_at}
 
 -- Words of symbols with arities up to 15.
 abbrev pub KnownSymbols : List ℕ → Type 0
@@ -59,4 +57,4 @@ clause_bytes_at words i = clause_bytes (symbols_in words) (row_at (term_cells wo
 
 -- The bytes of the line of a deck's symbol n.
 abbrev pub symbol_bytes_at : List ℕ → ℕ → ℕ
-symbol_bytes_at words n = length (symbol_text (symbol_of (symbol_word (symbol_words words) n)) n [])
+symbol_bytes_at words n = length (line_at words n)

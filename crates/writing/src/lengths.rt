@@ -3,13 +3,14 @@ ghost use Rattle.std.specs.Prelude.{sum_by, count_by, ◌+◌, ◌<◌, ◌≤�
 ghost use Rattle.rules.specs.Cells.{read_cell};
 ghost use Rattle.rules.specs.Decks.{symbol_words, clause_words};
 ghost use Rattle.rules.specs.Listing.{decimal};
-ghost use Rattle.text_rules.specs.TextWriter.{symbols_text, clauses_text, deck_text};
+ghost use Rattle.text_rules.specs.TextWriter.{value_text, format_text, clauses_text, deck_text};
 ghost use Rattle.deck.specs.Kinds.{kind_of, begins_literal};
 ghost use Rattle.signature.specs.Symbols.{symbol_count};
 ghost use Rattle.writing.specs.Lengths.{bracket_bytes, cell_bytes, clause_bytes_at, symbol_bytes_at};
-ghost use Rattle.writing.specs.Writes.{deck_of, symbols_in};
+ghost use Rattle.writing.specs.Writes.{deck_of, format_of, symbols_in, lines_of};
 
 use crate::literals::NEGATED;
+use crate::symbols::is_second;
 use deck::kinds;
 use deck::kinds::Kind;
 use deck::opened::Opened;
@@ -17,23 +18,44 @@ use deck::opened::Opened;
 pub fn deck_length(deck: &Opened) -> usize
     ensures { result ≡ length (deck_text (deck_of deck.now.words.now)) }
 {
-    symbols_length(deck) + clauses_length(deck)
+    format_length(deck) + symbols_length(deck) + clauses_length(deck)
+}
+
+// The line of format 2.
+fn format_length(deck: &Opened) -> usize
+    ensures { (result ≡ length (format_text (format_of deck.now.words.now) [])) × (result ≤ 4) }
+{
+    if is_second(deck) { 4 } else { 0 }
 }
 
 fn symbols_length(deck: &Opened) -> usize
-    ensures { (result ≡ length (symbols_text 0 (symbols_in deck.now.words.now) [])) × (result ≤ 69632) }
+    ensures { (result ≡ length (lines_of deck.now.words.now)) × (result ≤ 73728) }
 {
     (0..deck.symbols().len())
         .map(|n| symbol_length(deck, n))
         .sum()
 }
 
-// The line of symbol number n: seven bytes and two numbers.
+// The line of symbol number n: seven bytes, its number, and its arity or value.
 fn symbol_length(deck: &Opened, n: usize) -> usize
     requires { n < symbol_count (symbol_words deck.now.words.now) }
-    ensures { (result ≡ symbol_bytes_at deck.now.words.now n) × (result ≤ 17) }
+    ensures { (result ≡ symbol_bytes_at deck.now.words.now n) × (result ≤ 18) }
 {
-    7 + digits(n) + digits(signature::arity(deck.symbols(), n))
+    match deck.parts().value(n) {
+        Some(word) => 7 + digits(n) + value_length(word),
+        None => 7 + digits(n) + digits(signature::arity(deck.symbols(), n)),
+    }
+}
+
+// The value of a number by its word.
+fn value_length(word: u16) -> usize
+    ensures { (result ≡ length (value_text word [])) × (result ≤ 6) }
+{
+    let w = usize::from(word);
+    if w < 32768 {
+        return digits(w);
+    }
+    1 + digits(65536 - w)
 }
 
 fn clauses_length(deck: &Opened) -> usize

@@ -1,4 +1,4 @@
-// A deck as text (document 02, U1).
+// A deck as text (document 02, U1 and U10).
 #![tactic(auto)]
 
 ghost use Rattle.writing.specs.Writes.{Wrote, result_of};
@@ -18,7 +18,8 @@ mod symbols;
 pub fn write_text(deck: &[u16], text: &mut [u8]) -> Result<usize, Refusal>
     ensures { Wrote deck.now text.old (result_of result) text.new }
 {
-    let opened = Opened::new(deck)?;
+    let mut table = [0; 4096];
+    let opened = Opened::new(deck, &mut table)?;
     write_open(&opened, text)
 }
 
@@ -29,7 +30,7 @@ fn write_open(deck: &Opened, text: &mut [u8]) -> Result<usize, Refusal>
         return Err(Refusal::Room);
     }
     let mut out = Output::new(text);
-    symbols::put_symbols(&mut out, deck);
+    symbols::put_declarations(&mut out, deck);
     clauses::put_clauses(&mut out, deck);
     Ok(out.at)
 }

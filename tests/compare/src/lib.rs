@@ -2,6 +2,7 @@
 
 use second::carry::Given;
 use second::judge::{Engine, Lent, Report};
+use second::mean::{Column, Mean};
 
 #[cfg(feature = "stand-in")]
 mod stand_in;
@@ -92,6 +93,19 @@ mod c {
             level_words: usize,
             circular: *mut u32,
         ) -> u32;
+        #[allow(clippy::too_many_arguments)]
+        pub fn leads_mean(
+            deck: *const u16,
+            deck_words: usize,
+            list: *const u16,
+            list_words: usize,
+            count: u64,
+            terms: u64,
+            column: u64,
+            sum: *mut i64,
+            whole: *mut i64,
+            remainder: *mut u64,
+        ) -> u32;
     }
 }
 
@@ -181,6 +195,13 @@ pub fn levels(deck: &[u16], levels: &mut [u16], circular: &mut u32) -> u32 {
     unsafe { c::leads_levels(deck.as_ptr(), deck.len(), levels.as_mut_ptr(), levels.len(), circular) }
 }
 
+/// 0, the sum and the mean, or the refusal's number, 1 to 5, 17 or 18, with nothing touched.
+pub fn mean(deck: &[u16], list: &[u16], asked: Column, found: &mut Mean) -> u32 {
+    let Column { count, terms, column } = asked;
+    let Mean { sum, whole, remainder } = found;
+    unsafe { c::leads_mean(deck.as_ptr(), deck.len(), list.as_ptr(), list.len(), count, terms, column, sum, whole, remainder) }
+}
+
 /// The engine behind the calls that the second evaluator judges.
 pub struct Leads;
 
@@ -231,5 +252,11 @@ impl second::drill::judge::Engine for Leads {
 impl second::levels::judge::Engine for Leads {
     fn levels(&self, deck: &[u16], list: &mut [u16], circular: &mut u32) -> u32 {
         levels(deck, list, circular)
+    }
+}
+
+impl second::mean::judge::Engine for Leads {
+    fn mean(&self, deck: &[u16], list: &[u16], asked: Column, found: &mut Mean) -> u32 {
+        mean(deck, list, asked, found)
     }
 }

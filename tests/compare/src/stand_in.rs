@@ -3,6 +3,7 @@
 use second::carry::judge::Engine as Continues;
 use second::carry::{slips, Given};
 use second::cost::slips::SLIPS as PAYING;
+use second::deck::slips::SLIPS as READING;
 use second::drill::judge as drills;
 use second::drill::slips::SLIPS as DRILLING;
 use second::index::slips::SLIPS as TRYING;
@@ -10,6 +11,8 @@ use second::judge::{Engine as Runs, Lent, Report};
 use second::levels::judge as ranks;
 use second::levels::slips::SLIPS as RANKING;
 use second::loose::slips as loose;
+use second::mean::slips::SLIPS as MEANS;
+use second::mean::{judge as means, Column, Mean};
 use second::rights::slips::SLIPS as RIGHTS;
 use second::text::judge::{Engine, Second};
 use second::text::slips::SLIPS;
@@ -18,7 +21,10 @@ use std::sync::LazyLock;
 
 static ENGINE: LazyLock<&dyn Engine> = LazyLock::new(|| match SLIPS.iter().find(|slip| named(slip.name)) {
     Some(slip) => slip,
-    None => &Second,
+    None => match READING.iter().find(|slip| named(slip.name)) {
+        Some(slip) => slip,
+        None => &Second,
+    },
 });
 
 static CONTINUES: LazyLock<&dyn Continues> = LazyLock::new(|| match slips::SLIPS.iter().find(|slip| named(slip.name)) {
@@ -27,7 +33,10 @@ static CONTINUES: LazyLock<&dyn Continues> = LazyLock::new(|| match slips::SLIPS
         Some(slip) => slip,
         None => match RIGHTS.iter().find(|slip| named(slip.name)) {
             Some(slip) => slip,
-            None => &second::judge::Second,
+            None => match READING.iter().find(|slip| named(slip.name)) {
+                Some(slip) => slip,
+                None => &second::judge::Second,
+            },
         },
     },
 });
@@ -38,19 +47,36 @@ static RUNS: LazyLock<&(dyn Runs + Sync)> = LazyLock::new(|| match loose::SLIPS.
         Some(slip) => slip,
         None => match RIGHTS.iter().find(|slip| named(slip.name)) {
             Some(slip) => slip,
-            None => &second::judge::Second,
+            None => match READING.iter().find(|slip| named(slip.name)) {
+                Some(slip) => slip,
+                None => &second::judge::Second,
+            },
         },
     },
 });
 
 static DRILLS: LazyLock<&dyn drills::Engine> = LazyLock::new(|| match DRILLING.iter().find(|slip| named(slip.name)) {
     Some(slip) => slip,
-    None => &drills::Second,
+    None => match READING.iter().find(|slip| named(slip.name)) {
+        Some(slip) => slip,
+        None => &drills::Second,
+    },
 });
 
 static LEVELS: LazyLock<&dyn ranks::Engine> = LazyLock::new(|| match RANKING.iter().find(|slip| named(slip.name)) {
     Some(slip) => slip,
-    None => &ranks::Second,
+    None => match READING.iter().find(|slip| named(slip.name)) {
+        Some(slip) => slip,
+        None => &ranks::Second,
+    },
+});
+
+static MEAN: LazyLock<&dyn means::Engine> = LazyLock::new(|| match MEANS.iter().find(|slip| named(slip.name)) {
+    Some(slip) => slip,
+    None => match READING.iter().find(|slip| named(slip.name)) {
+        Some(slip) => slip,
+        None => &means::Second,
+    },
 });
 
 /// The slip of this name is asked for. A name that no slip has is an error.
@@ -62,7 +88,9 @@ fn named(name: &str) -> bool {
         let drilling = DRILLING.iter().map(|slip| slip.name);
         let ranking = RANKING.iter().map(|slip| slip.name);
         let rights = RIGHTS.iter().map(|slip| slip.name);
-        let runs = runs.chain(paying).chain(drilling).chain(ranking).chain(rights);
+        let reading = READING.iter().map(|slip| slip.name);
+        let means = MEANS.iter().map(|slip| slip.name);
+        let runs = runs.chain(paying).chain(drilling).chain(ranking).chain(rights).chain(reading).chain(means);
         let mut all = texts.chain(slips::SLIPS.iter().map(|slip| slip.name)).chain(runs);
         assert!(all.any(|one| one == wanted), "no slip of this name");
         wanted == name
@@ -240,4 +268,27 @@ pub unsafe extern "C" fn leads_levels(
     let deck = from_raw_parts(deck, deck_words);
     let levels = from_raw_parts_mut(levels, level_words);
     LEVELS.levels(deck, levels, &mut *circular)
+}
+
+/// # Safety
+/// As in `include/leads.h`.
+#[no_mangle]
+#[allow(clippy::too_many_arguments)]
+pub unsafe extern "C" fn leads_mean(
+    deck: *const u16,
+    deck_words: usize,
+    list: *const u16,
+    list_words: usize,
+    count: u64,
+    terms: u64,
+    column: u64,
+    sum: *mut i64,
+    whole: *mut i64,
+    remainder: *mut u64,
+) -> u32 {
+    let (deck, list) = (from_raw_parts(deck, deck_words), from_raw_parts(list, list_words));
+    let mut found = Mean { sum: *sum, whole: *whole, remainder: *remainder };
+    let number = MEAN.mean(deck, list, Column { count, terms, column }, &mut found);
+    (*sum, *whole, *remainder) = (found.sum, found.whole, found.remainder);
+    number
 }

@@ -14,6 +14,11 @@ pub const NOT: u16 = 16_384;
 pub const L: [u16; 29] =
     [1, 5, 8, 4, 13, 12, 17, 29, 0, 0, 257, 257, 257, 0, 2, 4, 6, 2, 0, 2, 1, 3, 0, 4, 32768, 2, 32768, 16387, 32768];
 
+/// The same in format 2, where a is the number 7 and b is -35.
+pub const NUMBERS: [u16; 34] = [
+    2, 5, 8, 4, 18, 12, 22, 34, 512, 7, 512, 65501, 257, 0, 257, 0, 257, 0, 0, 2, 4, 6, 2, 0, 2, 1, 3, 0, 4, 32768, 2, 32768, 16387, 32768,
+];
+
 /// One run of the program.
 #[derive(Clone, Debug, PartialEq, Eq)]
 pub struct Inputs {
@@ -44,7 +49,7 @@ pub fn deck(symbols: &[u16], clauses: &[&[u16]]) -> Vec<u16> {
     let world = World {
         symbols: symbols.to_vec(),
         clauses: clauses.iter().map(|clause| clause.to_vec()).collect(),
-        query: Vec::new(),
+        ..World::default()
     };
     world.deck()
 }

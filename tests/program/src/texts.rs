@@ -33,7 +33,7 @@ impl TextCase {
 }
 
 pub fn all() -> Vec<TextCase> {
-    [read(), unreadable(), long(), written()].into_iter().flatten().collect()
+    [read(), unreadable(), long(), written(), numbers(), no_numbers()].into_iter().flatten().collect()
 }
 
 fn reading(name: &'static str, text: &[u8], start: &'static [u8]) -> TextCase {
@@ -139,6 +139,51 @@ fn written() -> Vec<TextCase> {
     ]
 }
 
+/// Texts and decks with numbers.
+fn numbers() -> Vec<TextCase> {
+    vec![
+        reading("a number", b"v2.\nnu n1 -35.\npr p/1.\np(n1).\n", &[2, 0, 2, 0, 8, 0]),
+        writing("a number as text", &read_program(b"v2.\nnu n1 -35.\npr p/1.\np(n1).\n"), b"v2.\nnu s0 -35.\n"),
+        reading("its text again", b"v2.\nnu s0 -35.\npr s1/1.\ns1(s0).\n", &[2, 0, 2, 0, 8, 0]),
+        reading("values at the bounds", b"v2.nu a-32768.nu b 32767.nu c 0.nu d 16.nu e 15.nu f-1.", &[2, 0, 6, 0, 8, 0]),
+        writing("values at the bounds as text", &read_program(b"v2.nu a-32768.nu b 32767.nu c 0.nu d 16.nu e 15.nu f-1."), b"v2.\nnu s0 -32768.\n"),
+        reading("format 2 without numbers", b" v2 .fn a/0.pr p/1.p(a).", &[2, 0, 2, 0, 8, 0]),
+        writing("format 2 without numbers as text", &read_program(b" v2 .fn a/0.pr p/1.p(a)."), b"v2.\nfn s0/0.\n"),
+        reading("numbers among other symbols", b"v2.fn f/1.nu n-1.pr p/2.nu m 5.p(f(n),m).p(_0,_0):-~p(_0,f(_0)).", &[2, 0, 4, 0, 8, 0]),
+        writing("numbers among other symbols as text", &read_program(b"v2.fn f/1.nu n-1.pr p/2.nu m 5.p(f(n),m).p(_0,_0):-~p(_0,f(_0))."), b"v2.\nfn s0/1.\n"),
+        reading("a digit after a name of 16 bytes", b"v2.nu abcdefghijklmnop5.", &[2, 0, 1, 0, 8, 0]),
+        reading("`nu` and `v2` as names", b"v2.fn nu/0.nu v2 7.pr p/2.p(nu,v2).", &[2, 0, 3, 0, 8, 0]),
+        reading("the same in format 1", b"pr nu/1.fn v2/0.nu(v2).", &[1, 0, 2, 0, 8, 0]),
+        reading("`v2.` as a clause", b"pr v2/0.v2.", &[1, 0, 1, 0, 8, 0]),
+    ]
+}
+
+/// Numbers that are none, where there are none, and decks that they make wrong.
+fn no_numbers() -> Vec<TextCase> {
+    vec![
+        reading("minus 0", b"v2.nu a-0.", b"refused 10 7\n"),
+        reading("32768", b"v2.nu a 32768.", b"refused 10 8\n"),
+        reading("-32769", b"v2.nu a -32769.", b"refused 10 8\n"),
+        reading("-65536", b"v2.nu a -65536.", b"refused 10 8\n"),
+        reading("65537", b"v2.nu a 65537.", b"refused 10 8\n"),
+        reading("a sign by itself", b"v2.nu a - 5.", b"refused 10 8\n"),
+        reading("a number in format 1", b"nu n1 -35.", b"refused 10 3\n"),
+        reading("`v2.` after a declaration", b"fn a/0.v2.nu n1 5.", b"refused 10 13\n"),
+        reading("`v2` without a dot", b"v2 fn a/0.", b"refused 10 3\n"),
+        reading("a number with an arity", b"v2.nu a/5.", b"refused 10 7\n"),
+        reading("a number as a term", b"v2.pr p/1.p(5).", b"refused 10 12\n"),
+        reading("a negative arity", b"v2.fn a/-3.", b"refused 10 8\n"),
+        reading("a leading zero", b"v2.nu a 05.", b"refused 10 9\n"),
+        reading("a number declared again", b"v2.nu a 5.fn a/0.", b"refused 10 13\n"),
+        reading("a number with terms", b"v2.nu a 5.pr p/1.p(a(_0)).", b"refused 10 19\n"),
+        reading("two equal numbers", b"v2.nu a 5.nu b 5.", b"refused 2\n"),
+        reading("a number as a literal", b"v2.nu a 5.a.", b"refused 5\n"),
+        reading("format 2 without a symbol", b"v2.", b"refused 1\n"),
+        writing("two equal numbers in a deck", &bytes(&[2, 2, 8, 0, 12, 0, 12, 12, 512, 5, 512, 5]), b"refused 2\n"),
+        writing("a second word of a functor", &bytes(&[2, 1, 8, 0, 10, 0, 10, 10, 0, 1]), b"refused 2\n"),
+        writing("format 3", &bytes(&[3, 1, 8, 0, 10, 0, 10, 10, 0, 0]), b"refused 1\n"),
+    ]
+}
 /// What the crate reads, in the form that its source states.
 pub fn cases(list: &[TextCase]) -> Vec<u8> {
     let mut file = number(list.len()).to_vec();

@@ -2,6 +2,7 @@
 
 mod case;
 pub mod comparison;
+mod formats;
 pub mod judge;
 pub mod program;
 mod shrink;

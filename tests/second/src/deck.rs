@@ -1,7 +1,10 @@
 //! Opening a deck: refusals 1 to 5.
 
+pub mod slips;
+
 use crate::reader::{Reader, Symbol};
 use crate::terms::{Applied, Literal};
+use std::collections::HashSet;
 use std::ops::Range;
 use std::rc::Rc;
 
@@ -12,6 +15,8 @@ pub struct Clause {
 }
 
 pub struct Deck {
+    /// 1, or 2: each symbol takes two words.
+    pub format: u16,
     pub symbols: Vec<Symbol>,
     pub clauses: Vec<Clause>,
     /// For each symbol, its clauses in deck order.
@@ -20,21 +25,24 @@ pub struct Deck {
 
 /// The parts of a deck whose header is right.
 struct Parts<'a> {
+    format: u16,
     symbols: &'a [u16],
     starts: &'a [u16],
     terms: &'a [u16],
 }
 
-const HEADER: usize = 8;
+pub const HEADER: usize = 8;
 const MOST_SYMBOLS: usize = 4_096;
 const MOST_WORDS: usize = 16_384;
 const MOST_CLAUSE_CELLS: usize = 256;
 const MOST_ARITY: u16 = 15;
 const PREDICATE: u16 = 256;
+/// A number of format 2: its value is in the second word.
+pub const NUMBER: u16 = 512;
 
 pub fn open(words: &[u16]) -> Result<Deck, u32> {
     let parts = header(words).ok_or(1u32)?;
-    let symbols = read_symbols(parts.symbols).ok_or(2u32)?;
+    let symbols = read_symbols(parts.format, parts.symbols).ok_or(2u32)?;
     if !starts_in_order(parts.starts, parts.terms.len()) {
         return Err(3);
     }
@@ -49,6 +57,7 @@ pub fn open(words: &[u16]) -> Result<Deck, u32> {
         .ok_or(5u32)?;
     let about = clauses_about(symbols.len(), &clauses);
     Ok(Deck {
+        format: parts.format,
         symbols,
         clauses,
         about,
@@ -60,9 +69,10 @@ fn header(words: &[u16]) -> Option<Parts<'_>> {
         return None;
     }
     let field = |at: usize| words[at] as usize;
-    let (symbols, clauses, terms) = (field(1), field(3), field(5));
-    let (clause_offset, term_offset) = (HEADER + symbols, HEADER + symbols + clauses);
-    let right = field(0) == 1
+    let (format, symbols, clauses, terms) = (field(0), field(1), field(3), field(5));
+    let clause_offset = HEADER + format * symbols;
+    let term_offset = clause_offset + clauses;
+    let right = (1..=2).contains(&format)
         && (1..=MOST_SYMBOLS).contains(&symbols)
         && field(2) == HEADER
         && field(4) == clause_offset
@@ -70,22 +80,41 @@ fn header(words: &[u16]) -> Option<Parts<'_>> {
         && field(7) == term_offset + terms
         && field(7) == words.len();
     right.then(|| Parts {
+        format: words[0],
         symbols: &words[HEADER..clause_offset],
         starts: &words[clause_offset..term_offset],
         terms: &words[term_offset..],
     })
 }
 
-fn read_symbols(words: &[u16]) -> Option<Vec<Symbol>> {
-    words.iter().map(|word| read_symbol(*word)).collect()
+fn read_symbols(format: u16, words: &[u16]) -> Option<Vec<Symbol>> {
+    let each = words.chunks(format as usize).map(read_symbol);
+    let symbols: Vec<Symbol> = each.collect::<Option<_>>()?;
+    let mut values = HashSet::new();
+    let mut numbers = symbols.iter().filter_map(|symbol| symbol.value);
+    numbers.all(|value| values.insert(value)).then_some(symbols)
 }
 
-fn read_symbol(word: u16) -> Option<Symbol> {
+/// A symbol's word, in format 2 its two words.
+fn read_symbol(words: &[u16]) -> Option<Symbol> {
+    match words {
+        [NUMBER, value] => Some(Symbol {
+            arity: 0,
+            predicate: false,
+            value: Some(*value as i16),
+        }),
+        [word] | [word, 0] => read_kind(*word),
+        _ => None,
+    }
+}
+
+fn read_kind(word: u16) -> Option<Symbol> {
     let predicate = word >= PREDICATE;
     let arity = if predicate { word - PREDICATE } else { word };
     (arity <= MOST_ARITY).then_some(Symbol {
         arity: arity as usize,
         predicate,
+        value: None,
     })
 }
 

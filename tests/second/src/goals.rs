@@ -41,6 +41,10 @@ impl Goal {
         }
     }
 
+    pub fn answer(&self) -> &[Term] {
+        &self.answer
+    }
+
     /// The query's variables in order, then the query.
     pub fn first(query: Query) -> Goal {
         let answer = (0..query.variables).map(Term::Variable).collect();

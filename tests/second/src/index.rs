@@ -32,6 +32,8 @@ pub enum Slip {
     ByOrder,
     /// Rows by the functor itself.
     ByFunctor,
+    /// Rows by a number's value (U10).
+    ByValue,
     /// Rows by the last argument.
     ByLast,
     /// Rows of constants alone: of a term with arguments nothing is known.

@@ -16,6 +16,7 @@ pub mod judge;
 pub mod levels;
 pub mod listing;
 pub mod loose;
+pub mod mean;
 pub mod query;
 pub mod random;
 pub mod reader;

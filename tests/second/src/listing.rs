@@ -104,7 +104,7 @@ pub fn listing(symbols: &[Symbol], outcome: &Outcome) -> String {
     text
 }
 
-fn verdict(outcome: &Outcome) -> &'static str {
+pub fn verdict(outcome: &Outcome) -> &'static str {
     let closed = outcome.stop == Stop::Finished && outcome.parked.is_empty();
     match (closed, outcome.answers.is_empty()) {
         (true, false) => "all",

@@ -4,8 +4,10 @@ pub mod carries;
 mod damage;
 pub(crate) mod dice;
 mod families;
+pub(crate) mod formats;
 pub mod levels;
 mod limits;
+pub mod means;
 pub(crate) mod members;
 mod programs;
 mod rows;
@@ -114,6 +116,7 @@ pub fn case_of(name: &str, seed: u64) -> Case {
 fn made(seed: u64, mut dice: Dice, family: &Family) -> Case {
     let mut world = (family.make)(&mut dice);
     let settled = settle(&mut dice, &mut world, family.ways);
+    formats::some(seed, &mut world);
     let mut case = sizes::sized(&mut dice, &world, family.most_cost);
     (family.tune)(&mut dice, &mut case);
     case.name = format!("{}-{seed}{settled}", family.name);

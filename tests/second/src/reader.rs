@@ -6,6 +6,8 @@ use crate::terms::{Applied, Literal, Term, NEGATED, VARIABLE};
 pub struct Symbol {
     pub arity: usize,
     pub predicate: bool,
+    /// Of a number of format 2; in terms it is a functor like any other.
+    pub value: Option<i16>,
 }
 
 enum Cell {

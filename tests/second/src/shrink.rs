@@ -192,7 +192,7 @@ fn lift_term(case: &Case, number: usize) -> Candidate {
 fn lifted(world: &World, cells: &[u16], at: usize, way: usize) -> Option<Vec<u16>> {
     let cell = cells[at];
     let symbol = world.symbols.get(cell as usize)?;
-    if *symbol >= 256 || *symbol == 0 {
+    if !(1..256).contains(symbol) {
         return None;
     }
     let end = world.end(cells, at);
@@ -225,7 +225,7 @@ fn cut_symbol(case: &Case, number: usize) -> Candidate {
     if world.symbols.len() == 1 || used {
         return Candidate::Not;
     }
-    world.symbols.remove(number);
+    world.cut_symbol(number);
     for part in world.clauses.iter_mut().chain([&mut world.query]) {
         let later = |cell: &&mut u16| **cell < VARIABLE && **cell % NEGATED > symbol;
         part.iter_mut().filter(later).for_each(|cell| *cell -= 1);

@@ -46,7 +46,6 @@ pub enum Fault {
 }
 
 const MOST_WORDS: usize = 16_384;
-const HEADER: usize = 8;
 
 impl Refused {
     pub fn number(self) -> u32 {
@@ -68,7 +67,7 @@ impl Refused {
 /// The deck's words of a text, in a list of so many words: 10, 11, then 1 to 5.
 pub fn read(text: &[u8], room: usize) -> Result<Vec<u16>, Refused> {
     let world = world(text)?;
-    let words = words(&world);
+    let words = world.words();
     if words > MOST_WORDS {
         return Err(Refused::Long);
     }
@@ -84,21 +83,19 @@ pub fn read(text: &[u8], room: usize) -> Result<Vec<u16>, Refused> {
 
 /// The number of words that a text needs, unless it is refused with 10.
 pub fn size(text: &[u8]) -> Option<usize> {
-    world(text).ok().map(|world| words(&world))
+    world(text).ok().map(|world| world.words())
 }
 
-/// Symbols and clauses of a text that is not refused with 10.
+/// Whether a text begins with `v2.`
+pub fn second_format(text: &[u8]) -> bool {
+    let tokens = tokens(text);
+    let [first, second, ..] = tokens[..] else {
+        return false;
+    };
+    (first.kind, second.kind) == (Kind::Name(b"v2"), Kind::Mark(b'.'))
+}
+
+/// Format, symbols and clauses of a text that is not refused with 10.
 fn world(text: &[u8]) -> Result<World, Refused> {
-    let rules = grammar::rules(text)?;
-    let (symbols, clauses) = names::numbered(&rules)?;
-    Ok(World {
-        symbols,
-        clauses,
-        query: Vec::new(),
-    })
-}
-
-fn words(world: &World) -> usize {
-    let cells: usize = world.clauses.iter().map(Vec::len).sum();
-    HEADER + world.symbols.len() + world.clauses.len() + cells
+    names::numbered(&grammar::rules(text)?)
 }

@@ -1,27 +1,32 @@
 //! A deck in parts, and what is asked of it. Nothing here is checked.
 
+use crate::deck::{HEADER, NUMBER};
 use crate::terms::{NEGATED, VARIABLE};
 use std::ops::Range;
 
 #[derive(Clone, Debug, Default, PartialEq, Eq)]
 pub struct World {
     pub symbols: Vec<u16>,
+    /// The second word of each symbol, in format 2; what is missing is 0.
+    pub values: Option<Vec<u16>>,
     pub clauses: Vec<Vec<u16>>,
     pub query: Vec<u16>,
 }
 
-const HEADER: usize = 8;
-
 impl World {
-    /// The deck's words. Counts past 16 bits are cut off.
-    pub fn deck(&self) -> Vec<u16> {
+    /// 1, or 2 where symbols have a second word.
+    pub fn format(&self) -> usize {
+        1 + self.values.is_some() as usize
+    }
+
+    fn header(&self) -> [usize; HEADER] {
         let symbols = self.symbols.len();
         let clauses = self.clauses.len();
         let terms: usize = self.clauses.iter().map(Vec::len).sum();
-        let clause_offset = HEADER + symbols;
+        let clause_offset = HEADER + self.format() * symbols;
         let term_offset = clause_offset + clauses;
-        let header = [
-            1,
+        [
+            self.format(),
             symbols,
             HEADER,
             clauses,
@@ -29,9 +34,27 @@ impl World {
             terms,
             term_offset,
             term_offset + terms,
-        ];
-        let mut words: Vec<u16> = header.iter().map(|field| *field as u16).collect();
-        words.extend(&self.symbols);
+        ]
+    }
+
+    /// How many words the deck has.
+    pub fn words(&self) -> usize {
+        self.header()[HEADER - 1]
+    }
+
+    fn symbol_words(&self) -> Vec<u16> {
+        let Some(values) = &self.values else {
+            return self.symbols.clone();
+        };
+        let seconds = values.iter().copied().chain(std::iter::repeat(0));
+        let pairs = self.symbols.iter().zip(seconds);
+        pairs.flat_map(|(word, second)| [*word, second]).collect()
+    }
+
+    /// The deck's words. Counts past 16 bits are cut off.
+    pub fn deck(&self) -> Vec<u16> {
+        let mut words: Vec<u16> = self.header().iter().map(|field| *field as u16).collect();
+        words.extend(self.symbol_words());
         let mut start = 0;
         for clause in &self.clauses {
             words.push(start as u16);
@@ -44,21 +67,49 @@ impl World {
     /// The parts of a deck, if its header and clause starts hang together.
     pub fn take_apart(deck: &[u16], query: &[u16]) -> Option<World> {
         let field = |at: usize| deck.get(at).map(|word| *word as usize);
-        let (symbols, clauses) = (field(1)?, field(3)?);
-        let symbol_words = deck.get(HEADER..HEADER + symbols)?;
-        let starts = deck.get(HEADER + symbols..HEADER + symbols + clauses)?;
-        let terms = deck.get(HEADER + symbols + clauses..)?;
+        let (format, symbols, clauses) = (field(0)?, field(1)?, field(3)?);
+        if !(1..=2).contains(&format) {
+            return None;
+        }
+        let from = HEADER + format * symbols;
+        let symbol_words = deck.get(HEADER..from)?;
+        let starts = deck.get(from..from + clauses)?;
+        let terms = deck.get(from + clauses..)?;
         let mut parts = Vec::new();
         for (at, start) in starts.iter().enumerate() {
             let end = starts.get(at + 1).map_or(terms.len(), |end| *end as usize);
             parts.push(terms.get(*start as usize..end)?.to_vec());
         }
+        let each = symbol_words.chunks(format);
         let world = World {
-            symbols: symbol_words.to_vec(),
+            symbols: each.clone().map(|words| words[0]).collect(),
+            values: (format == 2).then(|| each.map(|words| words[1]).collect()),
             clauses: parts,
             query: query.to_vec(),
         };
         (world.deck() == deck).then_some(world)
+    }
+
+    pub fn cut_symbol(&mut self, number: usize) {
+        self.symbols.remove(number);
+        if let Some(values) = self.values.as_mut().filter(|values| number < values.len()) {
+            values.remove(number);
+        }
+    }
+
+    /// The functors without arguments, numbers among them.
+    pub fn constants(&self) -> Vec<u16> {
+        self.of_kind(|word| word == 0 || word == NUMBER)
+    }
+
+    pub fn predicates(&self) -> Vec<u16> {
+        self.of_kind(|word| (256..NUMBER).contains(&word))
+    }
+
+    /// The numbers of the symbols whose words are such.
+    pub fn of_kind(&self, such: impl Fn(u16) -> bool) -> Vec<u16> {
+        let all = 0..self.symbols.len() as u16;
+        all.filter(|number| such(self.symbols[*number as usize])).collect()
     }
 
     pub fn arity(&self, cell: u16) -> usize {

@@ -92,6 +92,7 @@ fn facts_are_matched_one_by_one() {
             symbols,
             clauses,
             query: vec![40, 0],
+            ..World::default()
         };
         let deck = world.deck();
         let outcome =

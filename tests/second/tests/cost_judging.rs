@@ -55,6 +55,7 @@ fn doubled(times: u16, budget: u32) -> Case {
         symbols: vec![0, 2, 2, 258, 257],
         clauses: vec![vec![equal, x, x, some, x]],
         query: query.clone(),
+        ..second::world::World::default()
     };
     let deck = world.deck();
     let name = format!("{times} doublings");

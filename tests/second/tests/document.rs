@@ -55,7 +55,7 @@ fn deck(symbols: &[u16], clauses: &[&[u16]]) -> Vec<u16> {
     let world = World {
         symbols: symbols.to_vec(),
         clauses: clauses.iter().map(|clause| clause.to_vec()).collect(),
-        query: Vec::new(),
+        ..World::default()
     };
     world.deck()
 }

@@ -29,6 +29,7 @@ fn world(body: Vec<u16>) -> World {
             vec![SOME, A],
         ],
         query: vec![START],
+        ..World::default()
     }
 }
 

@@ -30,7 +30,7 @@ fn trying_and_counting_agree() {
 fn the_stated_results() {
     let text = include_str!("../../vectors/drill.txt");
     let cases = vectors::parse(text).expect("the file reads");
-    assert_eq!(cases.len(), 168);
+    assert_eq!(cases.len(), 258);
     for (case, expected) in &cases {
         assert_eq!(&vectors::result(case), expected, "{}", case.name);
     }

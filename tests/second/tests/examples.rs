@@ -19,7 +19,7 @@ fn rules_read_to_the_decks_words() {
             decks += 1;
         }
     }
-    assert_eq!(decks, 3);
+    assert_eq!(decks, 4);
 }
 
 #[test]

@@ -17,16 +17,25 @@ fn same_seed_same_case() {
 fn everything_is_reached() {
     let mut reached = BTreeSet::new();
     for seed in 0..3_000 {
-        match case(seed).run() {
-            Err(number) => drop(reached.insert(format!("refused {number}"))),
-            Ok(outcome) => note(&outcome, &mut reached),
+        let case = case(seed);
+        let second = case.deck.first() == Some(&2);
+        match case.run() {
+            Err(number) => {
+                reached.insert(format!("refused {number}"));
+                reached.extend(second.then(|| format!("format 2: refused {number}")));
+            }
+            Ok(outcome) => {
+                note(&outcome, &mut reached);
+                reached.extend(second.then(|| format!("format 2: stop {:?}", outcome.stop)));
+            }
         }
     }
-    let refusals = (1..=9).chain(13..=16);
-    let mut wanted: BTreeSet<String> = refusals.map(|number| format!("refused {number}")).collect();
-    for stop in [Stop::Finished, Stop::Budget, Stop::Answers, Stop::Store] {
-        wanted.insert(format!("stop {stop:?}"));
-    }
+    let refusals = (1..=9).chain(13..=16).map(|number| format!("refused {number}"));
+    let stops = [Stop::Finished, Stop::Budget, Stop::Answers, Stop::Store];
+    let stops = stops.map(|stop| format!("stop {stop:?}"));
+    let mut wanted: BTreeSet<String> = refusals.chain(stops).collect();
+    let second: Vec<String> = wanted.iter().map(|what| format!("format 2: {what}")).collect();
+    wanted.extend(second);
     for mark in ["2 0", "3 0", "2 deeper", "3 deeper", "4 deeper"] {
         wanted.insert(format!("mark {mark}"));
     }

@@ -24,7 +24,7 @@ fn run(clauses: Vec<Vec<u16>>, query: &[u16], budget: u32) -> String {
     let world = World {
         symbols,
         clauses,
-        query: Vec::new(),
+        ..World::default()
     };
     let case = Case {
         name: String::new(),

@@ -12,6 +12,7 @@ fn base() -> World {
         symbols: vec![256, 257, 0],
         clauses: vec![vec![0], vec![1, 2, 0]],
         query: vec![1, X],
+        ..World::default()
     }
 }
 
@@ -68,6 +69,76 @@ fn symbols() {
     for bad in [16, 255, 272, 512, 768, 32_768, u16::MAX] {
         assert_eq!(open(&with(|world| world.symbols.push(bad)).deck()), 2);
     }
+}
+
+/// As the base, in format 2: p, q of one argument, the number 7, the number -35.
+fn numbers(change: impl Fn(&mut World)) -> u32 {
+    let mut world = with(|world| {
+        world.symbols = vec![256, 257, 512, 512];
+        world.values = Some(vec![0, 0, 7, 65_501]);
+        world.clauses.push(vec![1, 3]);
+    });
+    change(&mut world);
+    open(&world.deck())
+}
+
+#[test]
+fn symbols_of_two_words() {
+    let words = |second: u16| [2, 2, 8, 0, 12, 0, 12, 12, 512, 7, 512, second];
+    assert_eq!(open(&words(65_501)), 0);
+    assert_eq!(open(&words(7)), 2);
+    assert_eq!(open(&[2, 1, 8, 0, 10, 0, 10, 10, 512, 0]), 0);
+    assert_eq!(open(&[2, 1, 8, 0, 9, 0, 9, 9, 512]), 1);
+    assert_eq!(open(&[2, 1, 8, 0, 9, 0, 9, 10, 512, 0]), 1);
+    assert_eq!(open(&[1, 1, 8, 0, 10, 0, 10, 10, 512, 0]), 1);
+    assert_eq!(open(&[3, 1, 8, 0, 10, 0, 10, 10, 512, 0]), 1);
+    assert_eq!(open(&[2, 0, 8, 0, 8, 0, 8, 8]), 1);
+    assert_eq!(open(&[1, 1, 8, 0, 9, 0, 9, 9, 512]), 2);
+    assert_eq!(numbers(|_| ()), 0);
+    for value in [0, 8, 32_767, 32_768, 65_535] {
+        assert_eq!(numbers(|world| world.values = Some(vec![0, 0, 7, value])), 0);
+    }
+    for second in [1, 512, 65_535] {
+        assert_eq!(numbers(|world| world.values = Some(vec![second, 0, 7, 8])), 2);
+        assert_eq!(numbers(|world| world.values = Some(vec![0, second, 7, 8])), 2);
+        let functor = |world: &mut World| {
+            world.symbols[3] = 0;
+            world.values = Some(vec![0, 0, 7, second]);
+        };
+        assert_eq!(numbers(functor), 2);
+    }
+    for word in [16, 255, 272, 511, 513, 527, 768, 1_024, 65_535] {
+        assert_eq!(numbers(|world| world.symbols[3] = word), 2, "{word}");
+    }
+}
+
+#[test]
+fn equal_values() {
+    let values = |values: &[u16]| {
+        let symbols = vec![512; values.len()];
+        let values = Some(values.to_vec());
+        open(&World { symbols, values, ..World::default() }.deck())
+    };
+    assert_eq!(values(&[1, 2, 3, 4, 5]), 0);
+    assert_eq!(values(&[1, 2, 2, 4, 5]), 2);
+    assert_eq!(values(&[5, 2, 3, 4, 5]), 2);
+    assert_eq!(values(&[0, 65_535, 32_768, 65_535]), 2);
+    assert_eq!(values(&(0..4_096).collect::<Vec<u16>>()), 0);
+    assert_eq!(values(&(0..4_096).map(|at| at % 4_095).collect::<Vec<u16>>()), 2);
+    assert_eq!(values(&(0..4_097).map(|at| at % 4_095).collect::<Vec<u16>>()), 1);
+    // Over everything before the next check: 2 before 3, 4 and 5.
+    assert_eq!(numbers(|world| {
+        world.values = Some(vec![0, 0, 7, 7]);
+        world.clauses.push(vec![9; 300]);
+    }), 2);
+}
+
+#[test]
+fn numbers_are_functors() {
+    assert_eq!(numbers(|world| world.clauses.push(vec![3])), 5);
+    assert_eq!(numbers(|world| world.clauses.push(vec![0, 16_384 + 3])), 5);
+    assert_eq!(numbers(|world| world.clauses.push(vec![1, 3, 1, 2])), 0);
+    assert_eq!(numbers(|world| world.clauses.push(vec![1, 3, 3])), 5);
 }
 
 #[test]

@@ -23,7 +23,7 @@ fn world() -> World {
     World {
         symbols: vec![0, 256, 256, 256, 256, 256],
         clauses: vec![vec![P, Q], vec![Q, NOT + R], vec![S], vec![T, T]],
-        query: Vec::new(),
+        ..World::default()
     }
 }
 

@@ -20,7 +20,7 @@ fn reads(text: &str, symbols: &[u16], clauses: &[&[u16]]) {
     let world = second::world::World {
         symbols: symbols.to_vec(),
         clauses: clauses.iter().map(|clause| clause.to_vec()).collect(),
-        query: Vec::new(),
+        ..second::world::World::default()
     };
     assert_eq!(words(text), Ok(world.deck()), "{text}");
 }
@@ -56,7 +56,7 @@ fn the_writers_spacing() {
             vec![3],
             vec![3, 2, 1, 1, 16387],
         ],
-        query: Vec::new(),
+        ..second::world::World::default()
     };
     let text =
         "fn s0/2.\nfn s1/0.\npr s2/2.\npr s3/0.\ns2(s0(_0,s1),_1).\ns3.\ns3 :- s2(s1,s1), ~s3.\n";
@@ -285,4 +285,87 @@ fn writing_refuses_as_opening_does() {
     deck[28] = 32770;
     assert_eq!(write(&deck, 0), Err(5));
     assert_eq!(write(&L, 0), Err(11));
+}
+
+/// The text is read to just these symbols, of two words each, and cells.
+fn reads_numbers(text: &str, symbols: &[(u16, i16)], clauses: &[&[u16]]) {
+    let world = second::world::World {
+        symbols: symbols.iter().map(|symbol| symbol.0).collect(),
+        values: Some(symbols.iter().map(|symbol| symbol.1 as u16).collect()),
+        clauses: clauses.iter().map(|clause| clause.to_vec()).collect(),
+        ..second::world::World::default()
+    };
+    assert_eq!(words(text), Ok(world.deck()), "{text}");
+}
+
+const N: u16 = 512;
+
+#[test]
+fn texts_of_format_2() {
+    reads_numbers("v2.fn a/0.", &[(0, 0)], &[]);
+    reads_numbers("v2.nu n1-35.", &[(N, -35)], &[]);
+    reads_numbers(" v2 .\nnu n 5 .pr p/1.p(n).", &[(N, 5), (257, 0)], &[&[1, 0]]);
+    reads_numbers("v2.pr v2/0.nu nu -32768.fn fn/0.v2.", &[(256, 0), (N, i16::MIN), (0, 0)], &[&[0]]);
+    reads_numbers("v2.nu abcdefghijklmnop5.", &[(N, 5)], &[]);
+    reads_numbers("v2.nu n 32767.nu m 0.", &[(N, i16::MAX), (N, 0)], &[]);
+    reads_numbers("v2.nu n 5.pr p/1.p(_0):-p(_0),~p(n).", &[(N, 5), (257, 0)], &[&[1, 32768, 1, 32768, 16385, 0]]);
+    assert_eq!(read(b"v2.nu n 5.", 10).map(|deck| deck.len()), Ok(10));
+    assert_eq!(read(b"v2.nu n 5.", 9), Err(Refused::Room));
+    refuses("v2.", 1);
+    assert_eq!(read(b"v2.", 7), Err(Refused::Room));
+    refuses("v2.nu n 5.nu m 5.", 2);
+    refuses("v2.nu n 5.n.", 5);
+    refuses("v2.nu n 5.pr p/0.p:-~n.", 5);
+}
+
+#[test]
+fn outside_the_grammar_of_format_2() {
+    stops("nu n 5.", Fault::Token, 3);
+    stops("fn a/0.v2.nu n 5.", Fault::Token, 13);
+    stops("fn a/0.v2.", Fault::Undeclared, 7);
+    stops("v2.v2.", Fault::Undeclared, 3);
+    stops("v2", Fault::End, 2);
+    stops("v2,", Fault::Token, 2);
+    stops("v2.nu n -0.", Fault::Token, 8);
+    stops("v2.nu n 05.", Fault::Token, 9);
+    stops("v2.nu n -05.", Fault::Token, 8);
+    stops("v2.nu n - 5.", Fault::Token, 8);
+    stops("v2.nu n +5.", Fault::Token, 8);
+    stops("v2.nu n --5.", Fault::Token, 8);
+    stops("v2.nu n 32768.", Fault::Token, 8);
+    stops("v2.nu n -32769.", Fault::Token, 8);
+    stops("v2.nu n 65541.", Fault::Token, 8);
+    stops("v2.nu n -4294967297.", Fault::Token, 8);
+    stops("v2.nu n/0.", Fault::Token, 7);
+    stops("v2.nu n5.", Fault::Token, 8);
+    stops("v2.nu n.", Fault::Token, 7);
+    stops("v2.nu n", Fault::End, 7);
+    stops("v2.nu n 5", Fault::End, 9);
+    stops("v2.fn n 5.", Fault::Token, 8);
+    stops("v2.fn n-5.", Fault::Token, 7);
+    stops("v2.nu -5.", Fault::Token, 6);
+    stops("v2.nu n 5.pr p/1.p(5).", Fault::Token, 19);
+    stops("v2.nu n 5.pr p/1.p(-5).", Fault::Token, 19);
+    stops("v2.nu n 5.pr p/1.p(n).nu m 6.", Fault::Token, 25);
+    stops("v2.nu n 5.nu n 6.", Fault::Twice, 13);
+    stops("v2.nu n 5.pr p/1.p(n(_0)).", Fault::Arity, 19);
+    // 11 comes before 2, and 1 too.
+    assert_eq!(read(b"v2.nu n 5.nu m 5.", 11), Err(Refused::Room));
+    let many: String = (0..4_097).map(|at| format!("nu n{at} 5.")).collect();
+    refuses(&format!("v2.{many}"), 1);
+    let many: String = (0..8_189).map(|at| format!("nu n{at} {at}.")).collect();
+    assert_eq!(words(&format!("v2.{many}")), Err(Refused::Long));
+}
+
+#[test]
+fn decks_of_format_2_as_text() {
+    let symbols = [512, 65_501, 0, 0, 257, 0, 512, 32_767, 512, 32_768];
+    let deck = [&[2, 5, 8, 2, 18, 4, 20, 24], &symbols[..], &[0, 2], &[2, 0, 2, 3]].concat();
+    let text = "v2.\nnu s0 -35.\nfn s1/0.\npr s2/1.\nnu s3 32767.\nnu s4 -32768.\ns2(s0).\ns2(s3).\n";
+    assert_eq!(write(&deck, text.len()), Ok(text.into()));
+    assert_eq!(write(&deck, text.len() - 1), Err(11));
+    assert_eq!(words(text), Ok(deck));
+    let bare = [2, 1, 8, 0, 10, 0, 10, 10, 256, 0];
+    assert_eq!(write(&bare, 20), Ok("v2.\npr s0/0.\n".into()));
+    assert_eq!(words("v2.\npr s0/0.\n"), Ok(bare.to_vec()));
 }

@@ -10,7 +10,7 @@ fn file(name: &str) -> String {
 #[test]
 fn all_texts_are_read_so() {
     let cases = parse_reads(&file("read_text.txt")).expect("the file reads");
-    assert_eq!(cases.len(), 282);
+    assert_eq!(cases.len(), 263);
     for (case, expected) in &cases {
         assert_eq!(&read_result(case), expected, "{}", case.name);
     }
@@ -19,7 +19,7 @@ fn all_texts_are_read_so() {
 #[test]
 fn all_decks_are_written_so() {
     let cases = parse_writes(&file("write_text.txt")).expect("the file reads");
-    assert_eq!(cases.len(), 268);
+    assert_eq!(cases.len(), 264);
     for (case, expected) in &cases {
         assert_eq!(&case.write(), expected, "{}", case.name);
     }

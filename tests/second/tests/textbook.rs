@@ -173,6 +173,7 @@ fn single_steps_agree() {
             symbols: vec![0, 0, 1, 2, 259, 257],
             clauses: (0..3).map(|more| literals(&mut dice, more)).collect(),
             query: literals(&mut dice, 1),
+            ..World::default()
         };
         let (expected, cost) = derived(&world);
         let run = |budget| {

@@ -10,7 +10,7 @@ fn text() -> String {
 #[test]
 fn all_runs_agree() {
     let cases = parse(&text()).expect("the file reads");
-    assert_eq!(cases.len(), 288);
+    assert_eq!(cases.len(), 290);
     for (case, expected) in &cases {
         assert_eq!(&result(case), expected, "{}", case.name);
     }

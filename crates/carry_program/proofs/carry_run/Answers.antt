@@ -1,5 +1,5 @@
 -- The numbers and the goals' words are read, and the contract of the run that carries on gives what is printed.
-use Rattle.std.proofs.Common.{rules, ◌≡◌, ℕ, ◌∙◌, ◌-◌, length, drop, ap, sym, subst, arith}
+use Rattle.std.proofs.Common.{rules, ◌≡◌, ℕ, List, ◌∙◌, ◌-◌, length, drop, ap, sym, subst, arith}
 use Rattle.std.proofs.lemmas.List.{take_all, length-drop}
 use Rattle.rules.specs.Syntax.{Deck}
 use Rattle.rules.specs.Refusals.{accepted}
@@ -47,16 +47,17 @@ sized c =
 
 finished :
     (c : In_ok-report) → let a = c.args in
-    Finished (carry_bytes a.deck.now a.goals.now (file_of a.bars) a.budget) a.deck.now c.number-terms.result c.carry_on.new.answers c.carry_on.new.store c.in_ok-report.report
+    Finished (carry_bytes a.deck.now a.goals.now (file_of a.bars) a.budget) c.in_ok-opened.opened.words.now c.number-terms.result c.carry_on.new.answers c.carry_on.new.store c.in_ok-report.report
 finished c =
     let a = c.args in
     let result = accepted (report_of c.in_ok-report.report) in
     let at = goal.at.In_ok-report c in
     let w = at.After-read_words in
     let d = deck at.In_ok-opened in
-    subst (λ (n : ℕ). Finished (carry_bytes a.deck.now a.goals.now (file_of a.bars) a.budget) a.deck.now n c.carry_on.new.answers c.carry_on.new.store c.in_ok-report.report) (sym c.number-terms.ensures)
+    subst (λ (ws : List ℕ). Finished (carry_bytes a.deck.now a.goals.now (file_of a.bars) a.budget) ws c.number-terms.result c.carry_on.new.answers c.carry_on.new.store c.in_ok-report.report) (sym c.in_ok-opened.ensures.words)
+    (subst (λ (n : ℕ). Finished (carry_bytes a.deck.now a.goals.now (file_of a.bars) a.budget) a.deck.now n c.carry_on.new.answers c.carry_on.new.store c.in_ok-report.report) (sym c.number-terms.ensures)
     (carry-done a.deck.now a.goals.now _ d.0 d.1 (file_of a.bars) (listed at.After-bars_of-bars d.0 d.1) a.budget _ _ (sized w) (filled w) c.in_ok-report.report
-    (numbered a.deck.now a.goals.now _ a.budget _ _ _ c.number-pending.ensures c.number-parked.ensures c.number-terms.ensures result _ _ c.in_ok-report.ensures))
+    (numbered a.deck.now a.goals.now _ a.budget _ _ _ c.number-pending.ensures c.number-parked.ensures c.number-terms.ensures result _ _ c.in_ok-report.ensures)))
 
 pub returns-in_err-report : goal.returns-in_err-report
 returns-in_err-report c =

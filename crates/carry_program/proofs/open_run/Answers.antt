@@ -1,5 +1,5 @@
 -- The run's contract, on the program's buffers, gives what is printed.
-use Rattle.std.proofs.Common.{rules, ◌≡◌, length, ap, sym, ◌∙◌}
+use Rattle.std.proofs.Common.{rules, ◌≡◌, ℕ, List, length, ap, sym, ◌∙◌, subst}
 use Rattle.rules.specs.Syntax.{Deck}
 use Rattle.rules.specs.Refusals.{accepted}
 use Rattle.rules.specs.Decks.{open_deck}
@@ -29,12 +29,13 @@ returns-in_err-opened c =
 
 finished :
     (c : In_ok-report) → let a = c.args in
-    Finished (open_words a.deck.now a.query.now (file_of a.bars) a.budget) a.deck.now c.variables-terms.result c.run.new.answers c.run.new.store c.in_ok-report.report
+    Finished (open_words a.deck.now a.query.now (file_of a.bars) a.budget) c.in_ok-opened.opened.words.now c.variables-terms.result c.run.new.answers c.run.new.store c.in_ok-report.report
 finished c =
     let a = c.args in
     let at = goal.at.In_ok-report c in
     let d = deck at.In_ok-opened in
-    open_done a.deck.now a.query.now _ d.0 d.1 (file_of a.bars) (listed at.After-bars_of-bars d.0 d.1) a.budget _ _ (zeros-buffers c.new-lists.ensures.answers c.new-lists.ensures.store c.new-lists.ensures.scratch) c.in_ok-report.report _ c.variables-terms.ensures c.in_ok-report.ensures
+    subst (λ (ws : List ℕ). Finished (open_words a.deck.now a.query.now (file_of a.bars) a.budget) ws c.variables-terms.result c.run.new.answers c.run.new.store c.in_ok-report.report) (sym c.in_ok-opened.ensures.words)
+    (open_done a.deck.now a.query.now _ d.0 d.1 (file_of a.bars) (listed at.After-bars_of-bars d.0 d.1) a.budget _ _ (zeros-buffers c.new-lists.ensures.answers c.new-lists.ensures.store c.new-lists.ensures.scratch) c.in_ok-report.report _ c.variables-terms.ensures c.in_ok-report.ensures)
 
 pub returns-in_err-report : goal.returns-in_err-report
 returns-in_err-report c =

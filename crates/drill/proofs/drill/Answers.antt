@@ -6,7 +6,6 @@ use Rattle.std.proofs.lemmas.Result.{err_from_is_err_and}
 use Rattle.rules.specs.Refusals.{checked_number}
 use Rattle.rules.specs.Decks.{symbol_words, open_deck}
 use Rattle.deck.specs.Kinds.{symbols_of}
-use Rattle.deck.proofs.OpenLaws.{accepted-header}
 use Rattle.drill.specs.Successors.{Accepts}
 use Rattle.drill.proofs.AnswerLaws.{symbols-few, refused-call, refused-drill, written-call}
 use Rattle.drill.proofs.drill.Goals as goal
@@ -32,7 +31,7 @@ returns-then-not-accepts c =
 pub list-requires : goal.list-requires
 list-requires c =
     let ws = c.args.deck.now in
-    rw (c.symbols-symbols.ensures, c.in_ok-opened.ensures.words, c.in-Ok.ensures.1) (symbols-few ws (accepted-header ws (opens (goal.at.list-requires c).In_ok-opened)), tested (goal.at.list-requires c).After-accepts true (not-false c.accepts.result c.if-not-accepts.false-raw))
+    rw (c.symbols-symbols.ensures, c.in_ok-opened.ensures.words, c.in-Ok.ensures.1) (symbols-few ws (opens (goal.at.list-requires c).In_ok-opened), tested (goal.at.list-requires c).After-accepts true (not-false c.accepts.result c.if-not-accepts.false-raw))
 
 pub returns-in_err-opened : goal.returns-in_err-opened
 returns-in_err-opened c =

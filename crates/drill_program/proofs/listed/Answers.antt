@@ -45,4 +45,4 @@ returns c =
     let o = c.new-out.ensures in
     let a = c.put_lines.ensures l.trees (rw c.symbols-symbols.ensures l.standing) l.many in
     rw (words_run-split c.args.deck.now c.args.input.now _ c.from-n.ensures c.requires)
-    (lines-printed l (put_at_start o.bytes o.start a (search (rules, o.same_reference, a.same_reference))) c.told-bytes)
+    (lines-printed l (put_at_start o.bytes o.start a (search rules)) c.told-bytes)

@@ -13,7 +13,7 @@ use Rattle.program.specs.Runs.{words_run}
 use Rattle.rules.specs.Syntax.{Deck}
 use Rattle.deck.proofs.OpenLaws.{accepted-deck}
 use Rattle.deck.proofs.RefusalLaws.{number-refuses}
-use Rattle.program.proofs.PartLaws.{zeros-buffers, words-run, deck-refused, run-refused, run-done, header-fits}
+use Rattle.program.proofs.PartLaws.{zeros-buffers, words-run, deck-refused, run-refused, run-done}
 use Rattle.program.proofs.listed.Goals as goal
 use Rattle.program.proofs.listed.Goals.{In_ok-opened, After-nothing_barred, In_ok-report}
 
@@ -58,11 +58,6 @@ returns-in_err-report c =
     let p = err_from_is_err_and c.from_residual-in_err-report.result c.from_residual-in_err-report.ensures.1 in
     rw (p.1, p.2) (run-refused a.deck.now a.query.now _ d.0 d.1 z _ _ (zeros-buffers c.new-lists.ensures.answers c.new-lists.ensures.store c.new-lists.ensures.scratch) _ c.in_err-report.ensures, search rules)
 
-pub symbols-symbols-requires : goal.symbols-symbols-requires
-symbols-symbols-requires c =
-    let d = deck (goal.at.symbols-symbols-requires c).In_ok-opened in
-    header-fits c.args.deck.now d.0 d.1
-
 pub put_listing-requires-clause-room : goal.put_listing-requires-clause-room
 put_listing-requires-clause-room c =
     let o = c.new-out.ensures in
@@ -71,19 +66,19 @@ put_listing-requires-clause-room c =
 pub put_listing-requires-clause-shown : goal.put_listing-requires-clause-shown
 put_listing-requires-clause-shown c =
     let s = shown (goal.at.put_listing-requires-clause-shown c).In_ok-report in
-    (s.0, rw c.symbols-symbols.ensures s.2)
+    (s.0, rw (c.symbols.ensures ∙ ap symbol_words c.in_ok-opened.ensures.words) s.2)
 
 pub shape_of-out : goal.shape_of-out
 shape_of-out c =
     let s = shown (goal.at.shape_of-out c).In_ok-report in
-    let a = c.put_listing.ensures.adds s.0 (rw c.symbols-symbols.ensures s.2) in
+    let a = c.put_listing.ensures.adds s.0 (rw (c.symbols.ensures ∙ ap symbol_words c.in_ok-opened.ensures.words) s.2) in
     search (rules, c.new-out.ensures.same_reference, a.same_reference)
 
 pub returns : goal.returns
 returns c =
     let s = shown (goal.at.returns c).In_ok-report in
     let o = c.new-out.ensures in
-    let a = c.put_listing.ensures.adds s.0 (rw c.symbols-symbols.ensures s.2) in
+    let a = c.put_listing.ensures.adds s.0 (rw (c.symbols.ensures ∙ ap symbol_words c.in_ok-opened.ensures.words) s.2) in
     rw s.1
     (put-printed (put_at_start o.bytes o.start a (search rules))
     (omega (arith, a.put.place, c.put_listing.ensures.short, o.start, c.told-out, c.run.auto.answers)))

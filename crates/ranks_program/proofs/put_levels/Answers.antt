@@ -1,5 +1,5 @@
 -- The two words, and the numbers. Assumes nothing.
-use Rattle.std.proofs.Common.{◌≡◌, ℕ, ◌+◌, ◌*◌, ◌++◌, length, rules, sym, ap, ◌∙◌, arith}
+use Rattle.std.proofs.Common.{◌++◌, length, rules, ap, arith}
 use lib.ListN.{length-append}
 use Rattle.rules.specs.Program.{bytes_from}
 use Rattle.listing.specs.Put.{Adds}

@@ -19,6 +19,7 @@ fn main() {
     let (cases, first) = (number(100_000), number(0));
     let vectors = vectors();
     deepest();
+    symbols();
     let start = Instant::now();
     std::thread::scope(|scope| {
         for odd in 0..2 {
@@ -67,7 +68,7 @@ fn deepest() {
             vec![t, f, x, t, x],
             vec![t, g, x, y, t, x, t, y],
         ],
-        query: Vec::new(),
+        ..World::default()
     };
     let deck = world.deck();
     let nested = |times: usize| [vec![f; times], vec![a]].concat();
@@ -85,6 +86,59 @@ fn deepest() {
     doubled();
     vast();
     rows();
+    number_rows();
+}
+
+/// A small deck of format 2: each word of its header and of its symbols is every word there is, and every two numbers have equal values.
+fn symbols() {
+    let (n, p, x) = (512, 257, 32768);
+    let world = World {
+        symbols: vec![n, 0, p, n, 1, n],
+        values: Some(vec![7, 0, 0, 65_501, 0, 32_768]),
+        clauses: vec![vec![2, 0], vec![2, 4, 3]],
+        query: vec![2, x],
+    };
+    let deck = world.deck();
+    let query = world.query.clone();
+    for at in 0..8 + 2 * world.symbols.len() {
+        let mut other = deck.clone();
+        for word in 0..=u16::MAX {
+            other[at] = word;
+            let (found, expected) = (Leads.open(&other), second::open(&other));
+            assert!(found == expected, "word {at} is {word}: opening gives {found}, and not {expected}");
+        }
+        for bit in 0..16 {
+            other[at] = deck[at] ^ (1 << bit);
+            let sizes = Case { budget: 50, store_words: 1_024, ..roomy("a word of a symbol", &deck, query.clone()) };
+            hold(&Case { deck: other.clone(), ..sizes });
+        }
+    }
+    for (one, other) in (0..40).flat_map(|one| (0..40).map(move |other| (one, other))) {
+        let mut values: Vec<u16> = (0..40).map(|at| at * 1_000).collect();
+        values[one] = values[other];
+        let world = World { symbols: vec![n; 40], values: Some(values), ..World::default() };
+        let (other, bars) = (world.deck(), no_bars(&world.deck()));
+        hold(&Case { deck: other, bars, store_words: 1_024, ..roomy("two numbers", &deck, Vec::new()) });
+    }
+}
+
+/// As `rows`, over numbers whose values would give other rows than their symbols.
+fn number_rows() {
+    let (p, node, x) = (40, 41, 32768);
+    for count in (60..=70).chain([128, 129, 200, 1_000]) {
+        let mut clauses: Vec<Vec<u16>> = (0..count).map(|at| vec![p, at * 7 % 40]).collect();
+        clauses.extend((0..40).map(|name| vec![node, name]));
+        let values = (0..40).map(|name: u16| name.wrapping_mul(4_099) ^ 0x8005);
+        let world = World {
+            symbols: [vec![512; 40], vec![257, 257]].concat(),
+            values: Some(values.collect()),
+            clauses,
+            ..World::default()
+        };
+        let deck = world.deck();
+        hold(&roomy("rows of numbers", &deck, vec![node, x, p, x]));
+        hold(&roomy("a number", &deck, vec![p, 33]));
+    }
 }
 
 /// p(x1, .., xn) against p(f(y1, y1), .., f(yn, yn)) if t(y1), .., t(yn), and with each x tied to the next.
@@ -94,7 +148,7 @@ fn doubled() {
         let tied = |at: u16| vec![f, 32768 + at, 32768 + at];
         let held = (0..n).flat_map(|at| [t, 32768 + at]);
         let clause: Vec<u16> = [p].into_iter().chain((0..n).flat_map(tied)).chain(held).collect();
-        let world = World { symbols: vec![2, 256 + n, 257, 0], clauses: vec![clause, vec![t, a]], query: Vec::new() };
+        let world = World { symbols: vec![2, 256 + n, 257, 0], clauses: vec![clause, vec![t, a]], ..World::default() };
         let deck = world.deck();
         let apart = (0..n).map(|k| 32768 + k);
         hold(&roomy("doubled", &deck, [p].into_iter().chain(apart).collect()));
@@ -106,7 +160,7 @@ fn doubled() {
 /// A term doubled 60 times and set equal to itself: e(list, list) against e(x, x) if t(x). With any budget that a hut laptop has the call returns at once.
 fn vast() {
     let (a, f, g, e, t, x) = (0, 1, 2, 3, 4, 32768);
-    let world = World { symbols: vec![0, 2, 2, 258, 257], clauses: vec![vec![e, x, x, t, x]], query: Vec::new() };
+    let world = World { symbols: vec![0, 2, 2, 258, 257], clauses: vec![vec![e, x, x, t, x]], ..World::default() };
     let deck = world.deck();
     for times in [1, 2, 3, 9, 14, 15, 16, 30, 60, 75] {
         let left = (0..times).chain([0]).flat_map(|at| [g, x + at]).chain([a]);
@@ -129,7 +183,7 @@ fn rows() {
         let mut clauses: Vec<Vec<u16>> = (0..count).map(|at| vec![p, at * 7 % 40]).collect();
         clauses[count as usize / 2] = vec![p, x, node, x];
         clauses.extend((0..40).map(|name| vec![node, name]));
-        let world = World { symbols: [vec![0; 40], vec![257, 257]].concat(), clauses, query: Vec::new() };
+        let world = World { symbols: [vec![0; 40], vec![257, 257]].concat(), clauses, ..World::default() };
         let deck = world.deck();
         hold(&roomy("rows", &deck, vec![node, x, p, x]));
         hold(&roomy("all clauses", &deck, vec![p, x, node, x]));

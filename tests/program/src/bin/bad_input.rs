@@ -2,7 +2,7 @@
 //! missing, cut, too long or damaged. Its standard output must be the second
 //! evaluator's, byte for byte, its exit status 0, and it must return.
 
-use program::inputs::{bytes, deck, deck_of, largest_deck, long_listing, Inputs, L, X};
+use program::inputs::{bytes, deck, deck_of, largest_deck, long_listing, Inputs, L, NUMBERS, X};
 use program::run::{built, Input, Program};
 use program::{cases, random, shape};
 use std::collections::BTreeMap;
@@ -21,6 +21,7 @@ fn main() -> io::Result<()> {
     files(&mut judge)?;
     standard_input(&mut judge)?;
     lengths(&mut judge)?;
+    symbols(&mut judge)?;
     for case in cases::all() {
         judge.hold(&case.inputs)?;
     }
@@ -105,6 +106,22 @@ fn standard_input(judge: &mut Judge) -> io::Result<()> {
     for (length, size) in [(2, 1), (3, 1), (1_000, 7), (1_000, 999), (1_001, 500), (1_002, 1_000)] {
         let name = format!("{length} bytes of input, {size} at a time");
         judge.compare(&name, Input::Pieces(&vec![0; length], size), &expected(length))?;
+    }
+    Ok(())
+}
+
+/// A deck of format 2 with each byte of its header and of its symbols otherwise, and cut at each byte.
+fn symbols(judge: &mut Judge) -> io::Result<()> {
+    let (deck, query) = (bytes(&NUMBERS), bytes(&[4, X]));
+    for at in 0..2 * NUMBERS[4] as usize {
+        for byte in (0..8).map(|bit| deck[at] ^ (1 << bit)).chain([0, 1, 2, 3, 7, 255]) {
+            let mut other = deck.clone();
+            other[at] = byte;
+            judge.hold(&Inputs::new(&format!("byte {at} is {byte}"), Some(other), query.clone()))?;
+        }
+    }
+    for length in 0..=deck.len() {
+        judge.hold(&Inputs::new(&format!("format 2, {length} bytes"), Some(deck[..length].to_vec()), query.clone()))?;
     }
     Ok(())
 }

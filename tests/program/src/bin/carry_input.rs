@@ -1,7 +1,7 @@
 //! `carry_input [folder] [random cases]`: runs the programs `leads_open` and `carry_on` of a folder on decks, queries, members' lists and
 //! files of goals of all kinds. Standard output and the goals left must be the second evaluator's, byte for byte, the exit status 0, and they must return.
 
-use program::inputs::{bytes, L};
+use program::inputs::{bytes, L, NUMBERS};
 use program::run::{built, Input, Program};
 use second::carry::program::{carry_program, open_program, Printed};
 use second::carry::vectors::parse;
@@ -155,39 +155,40 @@ impl Judge {
         self.crowds(&program, &deck)
     }
 
-    /// Deck L with each list of words 0, 1 and 2, and with lists of all lengths, those of the room and beyond too.
+    /// Deck L, in both formats, with each list of words 0, 1 and 2, and with lists of all lengths, those of the room and beyond too.
     fn listed(&mut self) -> io::Result<()> {
         let mut lists: Vec<Vec<u8>> = (0..243).map(|number| bytes(&in_threes(number))).collect();
-        lists.extend((0..16).map(|length| vec![0; length]));
+        lists.extend((0..22).map(|length| vec![0; length]));
         lists.extend([8_190, 8_191, 8_192, 8_193, 8_194, 200_000].map(|length| vec![0; length]));
-        self.asked_with(&lists)?;
-        self.carried_with(&lists)
+        for deck in [bytes(&L), bytes(&NUMBERS)] {
+            self.asked_with(&deck, &lists)?;
+            self.carried_with(&deck, &lists)?;
+        }
+        Ok(())
     }
 
-    fn asked_with(&mut self, lists: &[Vec<u8>]) -> io::Result<()> {
+    fn asked_with(&mut self, deck: &[u8], lists: &[Vec<u8>]) -> io::Result<()> {
         let program = self.program("leads_open")?;
-        let deck = bytes(&L);
-        program.put(&deck)?;
+        program.put(deck)?;
         program.beside("budget", None)?;
         for list in lists {
             program.beside("bars", Some(list))?;
             for query in [vec![], bytes(&[4, 32_768]), bytes(&[16_387, 0]), bytes(&[0])] {
-                let expected = open_program(Some(&deck), &query, Some(list), 100_000);
+                let expected = open_program(Some(deck), &query, Some(list), 100_000);
                 self.hold(&program, &shown(list), Input::Pipe(&query), &expected)?;
             }
         }
         Ok(())
     }
 
-    fn carried_with(&mut self, lists: &[Vec<u8>]) -> io::Result<()> {
+    fn carried_with(&mut self, deck: &[u8], lists: &[Vec<u8>]) -> io::Result<()> {
         let program = self.program("carry_on")?;
-        let deck = bytes(&L);
-        let goals = open_program(Some(&deck), &bytes(&[4, 32_768]), None, 8).1.expect("goals are left");
-        program.put(&deck)?;
+        let goals = open_program(Some(deck), &bytes(&[4, 32_768]), None, 8).1.expect("goals are left");
+        program.put(deck)?;
         for list in lists {
             program.beside("bars", Some(list))?;
             for goals in [None, Some(goals.as_slice())] {
-                self.carry(&program, &shown(list), (Some(&deck), goals, Some(list)), 9)?;
+                self.carry(&program, &shown(list), (Some(deck), goals, Some(list)), 9)?;
             }
             assert!(program.found("bars").as_ref() == Some(list), "{}: it was changed", shown(list));
         }

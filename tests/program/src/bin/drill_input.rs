@@ -1,7 +1,7 @@
 //! `drill_input [folder] [random cases]`: runs the program `drill_terms` of a folder on decks and inputs of all kinds. Standard output must be
 //! the second evaluator's, byte for byte, the exit status 0, and it must return.
 
-use program::inputs::{bytes, largest_deck, L};
+use program::inputs::{bytes, largest_deck, L, NUMBERS};
 use program::run::{built, Input, Program};
 use second::drill::case::{bare, case};
 use second::drill::program::program;
@@ -62,6 +62,7 @@ impl Judge {
     fn decks(&mut self) -> io::Result<()> {
         let largest = bytes(&largest_deck());
         let mut decks = vec![bytes(&L), largest.clone(), bytes(&bare(&[0; 4_096])), bytes(&bare(&[15, 0, 1]))];
+        decks.extend([bytes(&NUMBERS), bytes(&bare(&[512; 4_096])), bytes(&bare(&[1, 512, 256, 2, 0, 512]))]);
         for length in [0, 1, 15, 16, 17, 57, 32_766, 32_767, 32_768, 32_769, 32_770, 65_536] {
             let mut deck = largest.clone();
             deck.resize(length, 0);

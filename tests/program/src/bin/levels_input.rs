@@ -1,7 +1,7 @@
 //! `levels_input [folder] [random cases]`: runs the program `deck_levels` of a folder on decks of all kinds. Standard output must be the
 //! second evaluator's, byte for byte, the exit status 0, and it must return.
 
-use program::inputs::{bytes, largest_deck, L};
+use program::inputs::{bytes, largest_deck, L, NUMBERS};
 use program::run::{built, Input, Program};
 use second::levels::program::levels_program;
 use second::levels::vectors::parse;
@@ -33,6 +33,7 @@ fn main() -> io::Result<()> {
 
 fn decks(seeds: u64) -> io::Result<Vec<(String, Vec<u8>)>> {
     let mut decks = vec![("deck L".to_string(), bytes(&L)), ("the largest deck".to_string(), bytes(&largest_deck()))];
+    decks.push(("numbers".to_string(), bytes(&NUMBERS)));
     for (case, _) in parse(&std::fs::read_to_string(VECTORS)?).map_err(io::Error::other)? {
         decks.push((case.name, bytes(&case.deck)));
     }

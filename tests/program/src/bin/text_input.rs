@@ -1,9 +1,9 @@
 //! `text_input [folder] [random cases]`: runs the programs `read_text` and `write_text` of a folder on texts and decks of all kinds. Standard
 //! output must be the second evaluator's, byte for byte, the exit status 0, and they must return.
 
-use program::inputs::{bytes, largest_deck, L};
+use program::inputs::{bytes, largest_deck, L, NUMBERS};
 use program::run::{built, Input, Program};
-use second::random::texts::{declared, nested, read_case, sized, write_case};
+use second::random::texts::{declared, nested, numbered, read_case, sized, sized_numbers, write_case};
 use second::text::program::{read_program, write_program, MOST_TEXT_BYTES};
 use second::text::vectors::{parse_reads, parse_writes};
 use std::collections::BTreeMap;
@@ -65,9 +65,11 @@ fn reading(judge: &Judge, seeds: u64, seen: &mut Seen) -> io::Result<()> {
     texts.extend(random.map(|case| (case.name, case.text)));
     for words in 16_382..16_388 {
         texts.push((format!("{words} words"), sized(words, 4_096)));
+        texts.push((format!("{words} words of format 2"), sized_numbers(words, 4_096)));
     }
     for number in [4_096, 4_097, 16_376, 16_377, 20_000] {
         texts.push((format!("{number} declarations"), declared(number)));
+        texts.push((format!("{number} numbers"), numbered(number)));
     }
     texts.push(("nested".to_string(), nested(80_000, 80_001, 1)));
     texts.push(("nested, without end".to_string(), nested(120_000, 0, 1)));
@@ -98,6 +100,7 @@ fn long_texts(judge: &Judge, seen: &mut Seen) -> io::Result<()> {
 
 fn writing(judge: &Judge, seeds: u64, seen: &mut Seen) -> io::Result<()> {
     let mut decks = vec![("deck L".to_string(), bytes(&L)), ("the largest deck".to_string(), bytes(&largest_deck()))];
+    decks.push(("numbers".to_string(), bytes(&NUMBERS)));
     for (case, _) in parse_writes(&file("write_text.txt")?).map_err(io::Error::other)? {
         decks.push((case.name, bytes(&case.deck)));
     }
@@ -105,6 +108,8 @@ fn writing(judge: &Judge, seeds: u64, seen: &mut Seen) -> io::Result<()> {
     decks.extend(random.map(|case| (case.name, bytes(&case.deck))));
     let large = second::text::read(&sized(16_384, 4_096), 16_384).expect("a deck");
     decks.push(("4,096 symbols".to_string(), bytes(&large)));
+    let numbers = second::text::read(&sized_numbers(16_384, 4_096), 16_384).expect("a deck");
+    decks.push(("4,095 numbers".to_string(), bytes(&numbers)));
     for length in [0, 1, 15, 16, 17, 32_766, 32_767, 32_768, 32_769, 32_770, 65_536] {
         let mut deck = bytes(&large);
         deck.resize(length, 0);

@@ -1,5 +1,6 @@
 //! The whole comparison of an engine's continued runs with this evaluator.
 
+use super::formats;
 use super::judge::{judge, Engine, WANTED};
 use super::shrink::small;
 use super::vectors::{parse, result};
@@ -218,7 +219,8 @@ pub fn together(all: Vec<Reached>) -> Result<Reached, String> {
     for (label, number) in all.into_iter().flatten() {
         *sum.entry(label).or_default() += number;
     }
-    let missing = WANTED.iter().filter(|label| !sum.contains_key(*label));
+    let wanted = WANTED.iter().chain(&formats::WANTED);
+    let missing = wanted.filter(|label| !sum.contains_key(*label));
     let missing: Vec<&&str> = missing.collect();
     if missing.is_empty() {
         return Ok(sum);

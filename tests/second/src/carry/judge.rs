@@ -1,6 +1,6 @@
 //! Another engine's continued runs held against this evaluator, case by case.
 
-use super::{carry_on, CarryCase, Fault, Given, Refused};
+use super::{carry_on, formats, CarryCase, Fault, Given, Refused};
 use crate::evaluation::{Outcome, Stop};
 use crate::goals::Goal;
 use crate::guarded::Guarded;
@@ -170,6 +170,7 @@ fn refused_labels(case: &CarryCase, refused: Refused) -> Vec<&'static str> {
         13 if rows => labels.push("rows: 13"),
         _ => {}
     }
+    labels.extend(formats::refused(case, refused.number()));
     labels
 }
 
@@ -306,5 +307,6 @@ fn ran_labels(case: &CarryCase, outcome: &Outcome) -> Vec<&'static str> {
     [stops[outcome.stop as usize]]
         .into_iter()
         .chain(more)
+        .chain(formats::ran(case, outcome))
         .collect()
 }

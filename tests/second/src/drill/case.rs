@@ -1,8 +1,10 @@
 //! A call, and random ones.
 
 use super::counting::Counting;
-use crate::deck;
+use crate::deck::{self, NUMBER};
 use crate::random::dice::Dice;
+use crate::random::formats;
+use crate::world::World;
 
 #[derive(Clone, Debug, PartialEq, Eq)]
 pub struct Case {
@@ -19,11 +21,13 @@ impl Case {
     }
 }
 
-/// A deck of these symbol words and no clauses.
+/// A deck of these symbol words and no clauses; in format 2 where there are numbers, with the higher values first.
 pub fn bare(symbols: &[u16]) -> Vec<u16> {
-    let count = symbols.len() as u16;
-    let header = [1, count, 8, 0, 8 + count, 0, 8 + count, 8 + count];
-    [&header, symbols].concat()
+    let numbers = symbols.contains(&NUMBER);
+    let value = |(at, word): (usize, &u16)| if *word == NUMBER { 50 - at as i16 } else { 0 } as u16;
+    let values = numbers.then(|| symbols.iter().enumerate().map(value).collect());
+    let symbols = symbols.to_vec();
+    World { symbols, values, ..World::default() }.deck()
 }
 
 /// Symbol words: few or many, of every arity and both kinds, and some with no constant.
@@ -47,9 +51,10 @@ fn symbols(dice: &mut Dice) -> Vec<u16> {
 }
 
 fn damaged(dice: &mut Dice, deck: &mut Vec<u16>) {
-    match dice.below(6) {
+    match dice.below(7) {
         0 => deck[dice.below(8)] ^= 1 << dice.below(16),
-        1 => deck[8] = dice.range(16, 255) as u16,
+        1 => deck[8] = *dice.pick(&[16, 17, 255, 272, 512, 513, 768]),
+        6 => deck[0] = *dice.pick(&[0, 1, 2, 3]),
         2 => {
             deck.push(0);
             (deck[5], deck[7]) = (1, deck[7] + 1);
@@ -114,7 +119,12 @@ fn spoil(dice: &mut Dice, symbols: usize, term: &mut Vec<u16>) {
 
 pub fn case(seed: u64) -> Case {
     let mut dice = Dice::new(seed ^ 0x7e57_0012);
-    let mut deck = bare(&symbols(&mut dice));
+    let mut world = World { symbols: symbols(&mut dice), ..World::default() };
+    formats::some(seed, &mut world);
+    if dice.chance(1, 30) {
+        formats::spoil(&mut dice, &mut world);
+    }
+    let mut deck = world.deck();
     if dice.chance(1, 10) {
         damaged(&mut dice, &mut deck);
     }

@@ -4,7 +4,7 @@ use super::case::{bare, case};
 use super::counting::Counting;
 use super::judge::{judge, Engine, COMES_TO};
 use super::{trying, vectors, Case};
-use crate::deck;
+use crate::deck::{self, NUMBER};
 use std::collections::BTreeMap;
 
 /// How often each of the things that a case can come to was reached.
@@ -16,7 +16,7 @@ pub struct Comparison<'a> {
 }
 
 /// Symbol words whose lists are gone through whole, and the cells of their terms.
-pub const SMALL: [(&[u16], u32); 9] = [
+pub const SMALL: [(&[u16], u32); 11] = [
     (&[0, 1, 257, 0, 2], 4),
     (&[0], 8),
     (&[1, 0], 8),
@@ -26,6 +26,8 @@ pub const SMALL: [(&[u16], u32); 9] = [
     (&[6, 5, 0, 7], 8),
     (&[256, 271], 8),
     (&[1, 2, 3], 8),
+    (&[NUMBER, 1, 256, 0, NUMBER, 2], 4),
+    (&[2, NUMBER], 7),
 ];
 
 impl<'a> Comparison<'a> {
@@ -90,7 +92,7 @@ impl<'a> Comparison<'a> {
 
     /// A term with each of its cells in turn made a predicate, a variable or an unknown symbol; cut off there; and whole, where N is too small for it.
     fn spoiled(&mut self, symbols: &[u16], n: u32, term: &[u16]) -> Result<(), String> {
-        let predicate = symbols.iter().position(|word| *word >= 256).map(|number| number as u16);
+        let predicate = symbols.iter().position(|word| (256..NUMBER).contains(word)).map(|number| number as u16);
         let wrong = predicate.into_iter().chain([32_768, symbols.len() as u16, 16_384]);
         for at in 0..term.len() {
             for cell in wrong.clone() {
@@ -111,6 +113,7 @@ impl<'a> Comparison<'a> {
             [vec![0; 100], vec![2], vec![0; 3_995]].concat(),
             [vec![256; 4_090], vec![7, 0, 1, 8, 2, 0]].concat(),
             (0..4_096).map(|number| number % 4).collect(),
+            [vec![NUMBER; 100], vec![2], vec![NUMBER; 2_000], vec![0; 1_995]].concat(),
         ] {
             let deck = bare(&symbols);
             let counting = Counting::new(&deck::open(&deck).map_err(|_| "no deck")?.symbols, 8);

@@ -1,8 +1,10 @@
 //! Another engine's call held against this evaluator, case by case.
 
 use super::{Case, MOST_CELLS};
+use crate::deck;
 use crate::guarded::Guarded;
 use crate::judge::same;
+use crate::reader::Symbol;
 use std::hint::black_box;
 
 /// The shape of the engine's call from C: 0, or the number of the refusal.
@@ -28,7 +30,7 @@ impl Engine for Second {
 }
 
 /// What a case must come to, of these names.
-pub const COMES_TO: [&str; 18] = [
+pub const COMES_TO: [&str; 21] = [
     "from the start",
     "after a term",
     "after the last term",
@@ -47,6 +49,9 @@ pub const COMES_TO: [&str; 18] = [
     "refused 19, unfinished",
     "refused 19, over N cells",
     "refused 19, over N cells and no term",
+    "numbers",
+    "after a number",
+    "format 2 without numbers",
 ];
 
 /// Stands in a result that is not to be written.
@@ -66,7 +71,7 @@ pub fn judge(engine: &dyn Engine, case: &Case) -> Result<&'static str, String> {
             same("refusal", &number, &0)?;
             list.holds("list", &cells, cells.len())?;
             same("count", &count, &(terms.len() as u64))?;
-            Ok(label(case, terms.len(), cells.len()))
+            Ok(of_format_2(case, &cells).unwrap_or(label(case, terms.len(), cells.len())))
         }
         Err(refused) => {
             same("refusal", &number, &refused)?;
@@ -82,7 +87,8 @@ pub fn judge(engine: &dyn Engine, case: &Case) -> Result<&'static str, String> {
 
 /// Which of the refusals of 19 this is. Cells with several faults go by the first.
 fn refused_for(case: &Case) -> usize {
-    let fault = fault(&case.deck[8..8 + case.deck[1] as usize], &case.after);
+    let symbols = deck::open(&case.deck).map_or(Vec::new(), |deck| deck.symbols);
+    let fault = fault(&symbols, &case.after);
     match (case.n > MOST_CELLS, case.after.len() > case.n as usize) {
         (true, _) => 0,
         (false, false) => fault.expect("a fault"),
@@ -92,18 +98,29 @@ fn refused_for(case: &Case) -> usize {
 }
 
 /// The first thing that keeps cells from being one variable-free term.
-fn fault(symbols: &[u16], cells: &[u16]) -> Option<usize> {
+fn fault(symbols: &[Symbol], cells: &[u16]) -> Option<usize> {
     let mut open = 1;
     for cell in cells {
         match symbols.get(*cell as usize) {
             _ if open == 0 => return Some(4),
             None if *cell >= 32_768 => return Some(2),
             None => return Some(3),
-            Some(word) if *word >= 256 => return Some(1),
-            Some(word) => open = open - 1 + word,
+            Some(symbol) if symbol.predicate => return Some(1),
+            Some(symbol) => open = open - 1 + symbol.arity,
         }
     }
     (open > 0).then_some(5)
+}
+
+/// What a case over a deck of format 2 has come to, if something is written.
+fn of_format_2(case: &Case, cells: &[u16]) -> Option<&'static str> {
+    let deck = deck::open(&case.deck).ok().filter(|deck| deck.format == 2 && !cells.is_empty())?;
+    let number = |cell: &u16| deck.symbols[*cell as usize].value.is_some();
+    match (cells.iter().any(number), case.after.last().is_some_and(number)) {
+        (_, true) => Some(COMES_TO[19]),
+        (true, _) => Some(COMES_TO[18]),
+        _ => Some(COMES_TO[20]).filter(|_| deck.symbols.iter().all(|symbol| symbol.value.is_none())),
+    }
 }
 
 fn label(case: &Case, terms: usize, cells: usize) -> &'static str {

@@ -1,5 +1,6 @@
 //! This evaluator with a slip put in, to see that the comparison finds it.
 
+use super::case::bare;
 use super::drill;
 use super::judge::{Engine, Second};
 
@@ -51,14 +52,21 @@ fn fitting(terms: Vec<Vec<u16>>, room: usize) -> Vec<Vec<u16>> {
     terms.into_iter().take_while(fits).collect()
 }
 
+/// The places of the symbols' first words.
+fn places(deck: &[u16]) -> impl Iterator<Item = usize> {
+    let (format, count) = (deck[0] as usize, deck[1] as usize);
+    (0..count).map(move |symbol| 8 + format * symbol)
+}
+
+fn first_words(deck: &[u16]) -> Vec<u16> {
+    places(deck).map(|at| deck[at]).collect()
+}
+
 /// A deck with some of its functors made predicates, so that they are passed over.
 fn without(deck: &[u16], passed: fn(u16) -> bool) -> Vec<u16> {
-    let mut changed = deck.to_vec();
-    let symbols = deck.get(1).map_or(0, |count| *count as usize);
-    for word in changed.iter_mut().skip(8).take(symbols).filter(|word| passed(**word)) {
-        *word = 256;
-    }
-    changed
+    let words = first_words(deck).into_iter();
+    let left: Vec<u16> = words.map(|word| if passed(word) { 256 } else { word }).collect();
+    bare(&left)
 }
 
 /// The terms that come after these cells in the list's order, though they need not be of it.
@@ -70,20 +78,25 @@ fn beyond(deck: &[u16], n: u32, cells: &[u16], room: usize) -> Result<Vec<Vec<u1
 
 /// A deck with its predicates made functors.
 fn functors(deck: &[u16]) -> Vec<u16> {
-    let mut changed = deck.to_vec();
-    for word in changed.iter_mut().skip(8).take(deck[1] as usize) {
-        *word &= 255;
-    }
-    changed
+    let words = first_words(deck).into_iter();
+    bare(&words.map(|word| word & 255).collect::<Vec<u16>>())
 }
 
 /// The cells with a constant of the deck in each variable's place.
 fn filled(deck: &[u16], cells: &[u16]) -> Option<Vec<u16>> {
-    let constant = deck.iter().skip(8).take(deck[1] as usize).position(|word| *word == 0)? as u16;
+    let constant = first_words(deck).iter().position(|word| *word == 0)? as u16;
     Some(cells.iter().map(|cell| if *cell < 32_768 { *cell } else { constant }).collect())
 }
 
-pub const SLIPS: [Slip; 15] = [
+/// For each symbol its number, or of a number its value.
+fn named(deck: &[u16], cell: u16) -> u16 {
+    match deck.get(8 + 2 * cell as usize..).unwrap_or_default() {
+        [512, value, ..] if deck[0] == 2 => *value,
+        _ => cell,
+    }
+}
+
+pub const SLIPS: [Slip; 19] = [
     Slip {
         name: "the order by length is forgotten",
         drill: |deck, n, after, room| {
@@ -130,7 +143,7 @@ pub const SLIPS: [Slip; 15] = [
         name: "functors of arity over 7 hide others",
         drill: |deck, n, after, room| {
             let terms = drill(deck, n, after, room)?;
-            let hidden = deck.iter().skip(8).take(deck[1] as usize).position(|word| (8..16).contains(word));
+            let hidden = first_words(deck).iter().position(|word| (8..16).contains(word));
             Ok(terms.into_iter().take_while(|term| hidden.is_none_or(|first| (term[0] as usize) < first)).collect())
         },
     },
@@ -187,6 +200,35 @@ pub const SLIPS: [Slip; 15] = [
         name: "functors of arity 7 are passed over",
         drill: |deck, n, after, room| match drill(deck, n, after, room) {
             Ok(_) if after.is_empty() => drill(&without(deck, |word| word == 7), n, after, room),
+            found => found,
+        },
+    },
+    Slip {
+        name: "numbers are passed over",
+        drill: |deck, n, after, room| match drill(deck, n, after, room) {
+            Ok(_) if after.is_empty() => drill(&without(deck, |word| word == 512), n, after, room),
+            found => found,
+        },
+    },
+    Slip {
+        name: "numbers are written as their values",
+        drill: |deck, n, after, room| {
+            let terms = drill(deck, n, after, room)?.into_iter();
+            Ok(terms.map(|term| term.iter().map(|cell| named(deck, *cell)).collect()).collect())
+        },
+    },
+    Slip {
+        name: "numbers are in order of their values",
+        drill: |deck, n, after, room| {
+            let mut terms = drill(deck, n, after, room)?;
+            terms.sort_by_key(|term| (term.len(), term.iter().map(|cell| named(deck, *cell) as i16).collect::<Vec<i16>>()));
+            Ok(terms)
+        },
+    },
+    Slip {
+        name: "the second words are symbols as well",
+        drill: |deck, n, after, room| match drill(deck, n, after, room) {
+            Ok(found) if deck[0] == 2 => drill(&bare(&deck[8..8 + 2 * deck[1] as usize]), n, after, room).or(Ok(found)),
             found => found,
         },
     },

@@ -59,10 +59,17 @@ fn row(deck: &Deck, atom: &Applied, slip: Slip) -> Option<u16> {
     match slip {
         Slip::ByConstant if !term.arguments.is_empty() => None,
         Slip::ByFunctor => Some(term.symbol),
+        Slip::ByValue => Some(named(deck, term.symbol) % ROWS),
         Slip::ByOrder => Some(order(deck, term.symbol) % ROWS),
         Slip::Modulo(number) => Some(term.symbol % number),
         _ => Some(term.symbol % ROWS),
     }
+}
+
+/// The symbol's number, or of a number its value.
+fn named(deck: &Deck, functor: u16) -> u16 {
+    let value = deck.symbols[functor as usize].value;
+    value.map_or(functor, |value| value as u16)
 }
 
 /// The functors before this one.
@@ -102,7 +109,7 @@ fn left_out(at: usize, count: usize, slip: Slip) -> bool {
 }
 
 /// To be found in fresh runs and in continued ones.
-pub const SLIPS: [Slipping; 29] = [
+pub const SLIPS: [Slipping; 30] = [
     slip("all clauses are tried", Tried(Slip::All)),
     slip("rows from 64 clauses on", Tried(Slip::From(64))),
     slip("rows from 66 clauses on", Tried(Slip::From(66))),
@@ -117,6 +124,7 @@ pub const SLIPS: [Slipping; 29] = [
     slip("rows modulo 32", Tried(Slip::Modulo(32))),
     slip("rows by the place among functors", Tried(Slip::ByOrder)),
     slip("rows by the functor itself", Tried(Slip::ByFunctor)),
+    slip("rows by a number's value", Tried(Slip::ByValue)),
     slip("rows by the last argument", Tried(Slip::ByLast)),
     slip("rows of constants alone", Tried(Slip::ByConstant)),
     slip("a row by the predicate's number", Tried(Slip::ByPredicate)),

@@ -37,7 +37,19 @@ pub(super) fn number(found: &Levels) -> u32 {
 }
 
 /// What a case must come to, of these names.
-pub const LEVELS: [&str; 8] = ["all at 0", "levels", "named", "refused 1", "refused 2", "refused 3", "refused 4", "refused 5"];
+pub const LEVELS: [&str; 11] = [
+    "all at 0",
+    "levels",
+    "named",
+    "refused 1",
+    "refused 2",
+    "refused 3",
+    "refused 4",
+    "refused 5",
+    "format 2: all at 0",
+    "format 2: levels",
+    "format 2: named",
+];
 
 /// Stands in a result that is not to be written.
 const UNSET: u32 = 0x5a5a_0f0f;
@@ -55,7 +67,7 @@ pub fn judge(engine: &dyn Engine, case: &LevelCase) -> Result<&'static str, Stri
             same("named", &circular, &number(&expected))?;
             let many = case.room.min(expected.numbers.len());
             list.holds("levels", &expected.numbers[..many], many)?;
-            Ok(label(&expected))
+            Ok(label(case, &expected))
         }
         Err(number) => {
             same("refusal", &refused, &number)?;
@@ -66,7 +78,8 @@ pub fn judge(engine: &dyn Engine, case: &LevelCase) -> Result<&'static str, Stri
     }
 }
 
-fn label(found: &Levels) -> &'static str {
+fn label(case: &LevelCase, found: &Levels) -> &'static str {
     let any = found.numbers.iter().any(|number| *number > 0);
-    LEVELS[if found.circular.is_some() { 2 } else { any as usize }]
+    let first = if case.deck[0] == 2 { 8 } else { 0 };
+    LEVELS[first + if found.circular.is_some() { 2 } else { any as usize }]
 }

@@ -5,6 +5,7 @@ mod limits;
 mod shapes;
 
 use super::dice::Dice;
+use super::formats;
 use super::members;
 use super::rows::rows;
 use super::sizes::near_a_step;
@@ -33,6 +34,7 @@ pub fn carry_case(seed: u64) -> CarryCase {
             tight::make_tight(&mut dice, &mut world, Ways::Any);
         }
     }
+    formats::some(seed, &mut world);
     let mut case = filled(&mut dice, &world);
     case.name = format!("filled-{seed}");
     if dice.chance(1, 3) {

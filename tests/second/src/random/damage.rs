@@ -1,6 +1,7 @@
 //! Damage: each refusal, and words changed at random.
 
 use super::dice::Dice;
+use super::formats;
 use crate::case::Case;
 use crate::terms::{NEGATED, VARIABLE};
 use crate::world::World;
@@ -33,11 +34,7 @@ fn aim(dice: &mut Dice) -> usize {
 
 fn damage_world(dice: &mut Dice, aim: usize, world: &mut World) {
     match aim {
-        2 => {
-            let at = dice.below(world.symbols.len());
-            let bad = [16, 17, 255, 272, 273, 511, 512, 4_096, 32_768, 65_535];
-            world.symbols[at] = *dice.pick(&bad);
-        }
+        2 => formats::spoil(dice, world),
         4 => lengthen_clause(dice, world),
         5 => {
             if world.clauses.is_empty() {
@@ -216,12 +213,17 @@ fn damage_header(dice: &mut Dice, deck: &mut Vec<u16>) {
 
 /// A deck of no symbols and no clauses, else in order.
 fn no_symbols(deck: &mut Vec<u16>) {
-    *deck = vec![1, 0, 8, 0, 8, 0, 8, 8];
+    *deck = vec![deck[0], 0, 8, 0, 8, 0, 8, 8];
+}
+
+/// Where the clause starts are, by the deck's format and number of symbols.
+fn clause_offset(deck: &[u16]) -> usize {
+    8 + if deck[0] == 2 { 2 } else { 1 } * deck[1] as usize
 }
 
 fn damage_starts(dice: &mut Dice, deck: &mut Vec<u16>) {
-    let (symbols, clauses, terms) = (deck[1] as usize, deck[3] as usize, deck[5]);
-    let first = 8 + symbols;
+    let (clauses, terms) = (deck[3] as usize, deck[5]);
+    let first = clause_offset(deck);
     if clauses == 0 || deck.len() < first + clauses || dice.chance(1, 8) {
         return terms_without_clauses(dice, deck);
     }
@@ -238,11 +240,10 @@ fn damage_starts(dice: &mut Dice, deck: &mut Vec<u16>) {
 
 /// Cells, but no clause to hold them.
 fn terms_without_clauses(dice: &mut Dice, deck: &mut Vec<u16>) {
-    let symbols = deck[1];
-    let end = (8 + symbols as usize).min(deck.len());
+    let end = clause_offset(deck).min(deck.len());
     deck.truncate(end);
     let cells = dice.range(1, 3) as u16;
-    let offset = 8 + symbols;
+    let offset = end as u16;
     let fields = [0, offset, cells, offset, offset + cells];
     deck[3..8].copy_from_slice(&fields);
     deck.resize(end + cells as usize, 0);

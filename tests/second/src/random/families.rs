@@ -11,6 +11,7 @@ pub fn world(signature: Signature, clauses: Vec<Vec<u16>>, query: Vec<u16>) -> W
         symbols: signature.words,
         clauses,
         query,
+        ..World::default()
     };
     world.clauses.iter_mut().for_each(|clause| renumber(clause));
     renumber(&mut world.query);

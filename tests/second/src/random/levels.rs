@@ -1,7 +1,9 @@
 //! Random decks for levels, fixed by their seeds: about half of them have a circle.
 
 use super::dice::Dice;
+use super::formats;
 use super::texts::{damaged, small_world};
+use crate::deck::NUMBER;
 use crate::levels::{LevelCase, NUMBERS};
 use crate::terms::NEGATED;
 use crate::world::World;
@@ -9,17 +11,22 @@ use crate::world::World;
 /// The deck of a seed, and a list to write its levels into; the same for ever.
 pub fn level_case(seed: u64) -> LevelCase {
     let mut dice = Dice::new(seed);
-    let (kind, deck) = match dice.weighted(&[6, 30, 20, 16, 20, 4, 4]) {
-        0 => ("world", small_world(&mut dice).deck()),
-        1 => ("rules", rules(&mut dice).deck()),
-        2 => ("layers", layers(&mut dice).deck()),
-        3 => ("chain", chain(&mut dice).deck()),
-        4 => ("rings", rings(&mut dice).deck()),
-        5 => ("damaged", {
-            let world = small_world(&mut dice);
-            damaged(&mut dice, world)
-        }),
-        _ => ("positive", positive(&mut dice).deck()),
+    let (kind, mut world) = match dice.weighted(&[6, 30, 20, 16, 20, 10, 4]) {
+        0 => ("world", small_world(&mut dice)),
+        1 => ("rules", rules(&mut dice)),
+        2 => ("layers", layers(&mut dice)),
+        3 => ("chain", chain(&mut dice)),
+        4 => ("rings", rings(&mut dice)),
+        5 => ("damaged", small_world(&mut dice)),
+        _ => ("positive", positive(&mut dice)),
+    };
+    formats::some(seed, &mut world);
+    if dice.chance(1, 25) {
+        formats::spoil(&mut dice, &mut world);
+    }
+    let deck = match kind {
+        "damaged" => damaged(&mut dice, world),
+        _ => world.deck(),
     };
     let room = match dice.below(4) {
         0 => *dice.pick(&[0, 1, 2, 7, 30, 4_095, 4_097, 5_000]),
@@ -155,11 +162,11 @@ fn positive(dice: &mut Dice) -> World {
 }
 
 /// The largest decks that take long: a shape by its number, `SHAPES` of them.
-pub const SHAPES: usize = 9;
+pub const SHAPES: usize = 11;
 
 pub fn largest(shape: usize) -> (String, Vec<u16>) {
-    if shape == SHAPES - 1 {
-        return twice();
+    if shape >= 8 {
+        return [twice, numbers_beside, in_format_2][shape - 8]();
     }
     let not = |predicate: usize| NEGATED + predicate as u16;
     let all = 4_092;
@@ -197,4 +204,30 @@ fn twice() -> (String, Vec<u16>) {
     clauses.push(vec![circle, NEGATED + circle]);
     let world = World { symbols: vec![256; ring as usize + 3], clauses, ..World::default() };
     ("a ring before long rules".to_string(), world.deck())
+}
+
+/// In format 2, where a symbol takes two words: a chain of nots, with the circle at its end.
+fn in_format_2() -> (String, Vec<u16>) {
+    let all: u16 = 3_275;
+    let chain = (1..all).map(|at| vec![at - 1, NEGATED + at]);
+    let world = World {
+        symbols: vec![256; all as usize],
+        values: Some(Vec::new()),
+        clauses: chain.chain([vec![all - 1, NEGATED + all - 1]]).collect(),
+        ..World::default()
+    };
+    ("a chain of nots in format 2".to_string(), world.deck())
+}
+
+/// In format 2, 4,096 symbols: numbers, and a chain of nots between every second of them.
+fn numbers_beside() -> (String, Vec<u16>) {
+    let all: u16 = 4_096;
+    let steps = (3..all).step_by(2).map(|at| vec![at - 2, NEGATED + at]);
+    let world = World {
+        symbols: [NUMBER, 256].repeat(all as usize / 2),
+        values: Some((0..all).map(|at| if at % 2 == 0 { at } else { 0 }).collect()),
+        clauses: steps.collect(),
+        ..World::default()
+    };
+    ("numbers and a chain of nots".to_string(), world.deck())
 }

@@ -5,11 +5,11 @@ mod draft;
 mod limits;
 
 use super::dice::Dice;
-use super::{damage as deck_damage, Family, FAMILIES};
+use super::{damage as deck_damage, formats, Family, FAMILIES};
 use crate::case::Case;
 use crate::text::{size, write, ReadCase, WriteCase};
 use crate::world::World;
-pub use limits::{alike, declared, nested, sized, used};
+pub use limits::{alike, declared, nested, numbered, sized, sized_numbers, used};
 
 /// The text of a seed, and a list to read it into; the same for ever.
 pub fn read_case(seed: u64) -> ReadCase {
@@ -30,7 +30,8 @@ pub fn read_case(seed: u64) -> ReadCase {
 }
 
 fn drafted(dice: &mut Dice, times: usize) -> Vec<u8> {
-    let world = small_world(dice);
+    let mut world = small_world(dice);
+    formats::some(dice.draw(), &mut world);
     let mut draft = draft::Draft::new(dice, &world);
     for _ in 0..times {
         damage::damage(dice, &mut draft);
@@ -85,6 +86,7 @@ fn room(dice: &mut Dice, needed: usize, others: &[usize]) -> usize {
 pub fn write_case(seed: u64) -> WriteCase {
     let mut dice = Dice::new(!seed);
     let mut world = any_world(&mut dice);
+    formats::some(seed, &mut world);
     let mut deck = world.deck();
     if dice.chance(1, 4) {
         world.query.clear();

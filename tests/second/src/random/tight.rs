@@ -65,7 +65,7 @@ struct Holder {
 impl Holder {
     fn new(dice: &mut Dice, world: &mut World, ways: Ways) -> Holder {
         let own = dice.chance(1, 5);
-        let predicates: Vec<u16> = numbers(world, |word| word > 256);
+        let predicates: Vec<u16> = world.of_kind(|word| word > 256);
         let room = MOST_WORDS.saturating_sub(world.deck().len());
         let fresh = world.symbols.len() < MOST_SYMBOLS - 1 && room > 300;
         let predicate = if !predicates.is_empty() && (own || !fresh) {
@@ -76,7 +76,7 @@ impl Holder {
         let arity = |number| (number, world.arity(number));
         Holder {
             predicate: predicate.map(arity),
-            constants: numbers(world, |word| word == 0),
+            constants: world.of_kind(|word| word == 0),
             ways,
         }
     }
@@ -119,7 +119,7 @@ impl Holder {
             return cells.to_vec();
         };
         let wrap = dice.chance(1, 6);
-        let functors = numbers(world, |word| (1..16).contains(&word));
+        let functors = world.of_kind(|word| (1..16).contains(&word));
         let mut literals = Vec::new();
         for variable in loose_here {
             let functor = Some(&functors).filter(|list| wrap && !list.is_empty());
@@ -157,12 +157,6 @@ fn tied(dice: &mut Dice, cells: &[u16], loose_here: &[u16], among: &[u16]) -> Ve
     next
 }
 
-fn numbers(world: &World, wanted: impl Fn(u16) -> bool) -> Vec<u16> {
-    let words = world.symbols.iter().enumerate();
-    let found = words.filter(|(_, word)| wanted(**word));
-    found.map(|(number, _)| number as u16).collect()
-}
-
 /// A predicate of one place: of nothing, of a few constants, or of every term of the deck.
 fn new_predicate(dice: &mut Dice, world: &mut World) -> u16 {
     if !world.symbols.contains(&0) && dice.chance(1, 2) {
@@ -174,12 +168,12 @@ fn new_predicate(dice: &mut Dice, world: &mut World) -> u16 {
     if dice.chance(1, 8) {
         return holds;
     }
-    let constants = numbers(world, |word| word == 0);
+    let constants = world.of_kind(|word| word == 0);
     let few = constants.len().min(dice.range(1, 5));
     world
         .clauses
         .extend(constants[..few].iter().map(|one| vec![holds, *one]));
-    let functors = numbers(world, |word| (1..16).contains(&word));
+    let functors = world.of_kind(|word| (1..16).contains(&word));
     for functor in functors.into_iter().take(4).filter(|_| of_terms) {
         let variables = (0..world.arity(functor)).map(|at| VARIABLE + at as u16);
         let mut clause = vec![holds, functor];
@@ -252,7 +246,7 @@ const NEW: u16 = VARIABLE + 1_023;
 
 /// A negated literal more, with a new variable.
 fn with_negated(dice: &mut Dice, world: &World, cells: &[u16]) -> Vec<u16> {
-    let predicates = numbers(world, |word| word > 256);
+    let predicates = world.of_kind(|word| word > 256);
     let mut next = cells.to_vec();
     if !predicates.is_empty() {
         let predicate = *dice.pick(&predicates);
@@ -274,7 +268,7 @@ fn with_variable(dice: &mut Dice, world: &World, cells: &[u16], clause: bool) ->
         return with_negated(dice, world, cells);
     }
     let at = *dice.pick(&terms);
-    let functors = numbers(world, |word| (1..16).contains(&word));
+    let functors = world.of_kind(|word| (1..16).contains(&word));
     let mut term = vec![NEW];
     if !functors.is_empty() && dice.chance(1, 3) {
         let functor = *dice.pick(&functors);

@@ -124,10 +124,7 @@ fn change(dice: &mut Dice, world: &mut World, free: &[u16]) {
 
 /// A clause without variables about one of these predicates; at times with a literal of any predicate.
 fn made(dice: &mut Dice, world: &World, free: &[u16]) -> Option<Vec<u16>> {
-    let symbols = 0..world.symbols.len() as u16;
-    let word = |at: &u16| world.symbols[*at as usize];
-    let constants: Vec<u16> = symbols.clone().filter(|at| word(at) == 0).collect();
-    let predicates: Vec<u16> = symbols.filter(|at| word(at) >= 256).collect();
+    let (constants, predicates) = (world.constants(), world.predicates());
     let mut clause = Vec::new();
     for symbol in [*dice.pick(free), *dice.pick(&predicates)] {
         clause.push(symbol);

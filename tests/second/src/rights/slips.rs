@@ -6,6 +6,7 @@ use crate::deck::{self, Deck};
 use crate::evaluation::{Limits, Outcome, Start};
 use crate::judge::{put, report_of, Engine, Lent, Report};
 use crate::loose;
+use crate::reader::Symbol;
 use crate::terms::Literal;
 
 pub struct Slip {
@@ -210,7 +211,7 @@ fn followed(
 /// More steps than there are predicates.
 const FAR: usize = 5_000;
 
-pub const SLIPS: [Slip; 34] = [
+pub const SLIPS: [Slip; 37] = [
     slip("15 and 16 are not given", |_, _, _| Ok(())),
     slip("15 is not given", |deck, bars, start| {
         reach(deck, bars, start.literals())
@@ -248,6 +249,21 @@ pub const SLIPS: [Slip; 34] = [
     slip("a 1 at a functor is let through", |deck, bars, start| {
         let right = bars.len() == deck.symbols.len() && bars.iter().all(|bar| *bar <= 1);
         lists(deck, bars, start, right)
+    }),
+    slip("a 1 at a number is let through", |deck, bars, start| {
+        let mut words = deck.symbols.iter().zip(bars);
+        let most = |symbol: &Symbol| u16::from(symbol.predicate || symbol.value.is_some());
+        let right = words.all(|(symbol, bar)| *bar <= most(symbol));
+        lists(deck, bars, start, right && bars.len() == deck.symbols.len())
+    }),
+    slip("two words a symbol in format 2", |deck, bars, start| {
+        let words = deck.format as usize * deck.symbols.len();
+        lists(deck, bars, start, bars.len() == words && words_fit(deck, bars))
+    }),
+    slip("two words a symbol are let through in format 2", |deck, bars, start| {
+        let right = deck.format == 2 && bars.len() == 2 * deck.symbols.len();
+        let most = bars.len() / if right { 2 } else { 1 };
+        both(deck, &bars[..most], start)
     }),
     slip("a 2 is let through", |deck, bars, start| {
         let most = |predicate: bool| if predicate { 2 } else { 0 };

@@ -4,7 +4,7 @@ use super::judge::{judge_read, judge_write, Engine, READS, WRITES};
 use super::shrink::{small_read, small_write};
 use super::vectors::{parse_reads, parse_writes, read_result};
 use super::{size, tokens, write, ReadCase, WriteCase};
-use crate::random::texts::{alike, declared, nested, read_case, sized, used, write_case};
+use crate::random::texts::{alike, declared, nested, numbered, read_case, sized, sized_numbers, used, write_case};
 use std::collections::BTreeMap;
 use std::time::{Duration, Instant};
 
@@ -120,6 +120,10 @@ impl<'a> Comparison<'a> {
                     sized(words, 4_096),
                     room,
                 )?;
+                for symbols in [2, 4_096] {
+                    let text = sized_numbers(words, symbols);
+                    self.quick(format!("{words} words, {symbols} numbers"), text, room)?;
+                }
             }
         }
         for number in [
@@ -142,12 +146,26 @@ impl<'a> Comparison<'a> {
                 self.quick(format!("{number} declarations and {end}"), text, ROOMY)?;
             }
         }
+        self.many_numbers()?;
         for shape in 0..3 {
             self.quick(format!("names alike, {shape}"), alike(shape), ROOMY)?;
         }
         self.uses()?;
         self.nesting()?;
         self.largest_decks()
+    }
+
+    /// Many numbers, at times with two equal values: 11 comes first, then 1, then 2.
+    fn many_numbers(&mut self) -> Result<(), String> {
+        for number in [4_095, 4_096, 4_097, 8_187, 8_188, 8_189, 65_535, 65_536] {
+            for end in ["", "nu b 0.", "nu b -32768.", "nu b -28674.", "nu b -32768.nu b 0.", "b."] {
+                let text = [&numbered(number)[..], end.as_bytes()].concat();
+                for room in [7, 8 + 2 * number, 10 + 2 * number, ROOMY] {
+                    self.quick(format!("{number} numbers and {end}"), text.clone(), room)?;
+                }
+            }
+        }
+        Ok(())
     }
 
     /// Many declarations, all of them used, with a clause before the uses and one after them.
@@ -215,8 +233,8 @@ impl<'a> Comparison<'a> {
 
     /// The longest decks, written into lists that are exactly full and one short, and read again.
     fn largest_decks(&mut self) -> Result<(), String> {
-        for symbols in [2, 4_096] {
-            let deck = super::read(&sized(16_384, symbols), ROOMY).expect("16,384 words");
+        for text in [sized(16_384, 2), sized(16_384, 4_096), sized_numbers(16_384, 2), sized_numbers(16_384, 4_096)] {
+            let deck = super::read(&text, ROOMY).expect("16,384 words");
             let text = write(&deck, usize::MAX).expect("a deck");
             for room in [text.len() - 1, text.len(), text.len() + 1, 262_144] {
                 let (name, deck) = ("the longest deck".to_string(), deck.clone());
@@ -246,10 +264,12 @@ pub fn together(all: Vec<Reached>) -> Result<Reached, String> {
 }
 
 /// Texts to be damaged everywhere.
-pub const SHORT: [&str; 5] = [
+pub const SHORT: [&str; 7] = [
     "",
     " \npr p/0.",
     "fn a/0.fn b/0.pr end/1.pr lead/1.\nend(a).lead(_0) :- end(_0), ~lead(b).\n",
     "fn fn/2. pr pr/0. pr abcdefghijklmnop/1.\n pr:-abcdefghijklmnop(fn(_0,fn(_1,_0))),pr.",
     "fn f/15.fn g/10.pr p/1.p(_0).p(_1023).p(f(_0,_1,_2,_3,_4,_5,_6,_7,_8,_9,_10,_11,_12,_13,_14)).",
+    "v2.nu a 5.nu b-35.fn c/0.pr p/1.p(a).p(_0):-p(_0),~p(b).",
+    " v2\n.nu abcdefghijklmnop5.nu nu -32768.pr v2/1.nu n 32767.v2(nu).v2(abcdefghijklmnop).",
 ];

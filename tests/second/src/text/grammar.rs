@@ -4,6 +4,8 @@ use super::tokens::{tokens, Kind, Token};
 use super::{Fault, Refused};
 
 pub struct Rules<'a> {
+    /// The text begins with `v2.` (request U10).
+    pub second_format: bool,
     pub declared: Vec<Declared<'a>>,
     pub clauses: Vec<Vec<Part<'a>>>,
 }
@@ -11,8 +13,15 @@ pub struct Rules<'a> {
 pub struct Declared<'a> {
     pub place: usize,
     pub name: &'a [u8],
-    pub predicate: bool,
-    pub arity: u32,
+    pub kind: Declares,
+}
+
+/// A functor or a predicate with its arity, or a number with its value.
+#[derive(Clone, Copy)]
+pub enum Declares {
+    Functor(u16),
+    Predicate(u16),
+    Number(i16),
 }
 
 /// What a cell is made from, in the order of the text.
@@ -30,14 +39,19 @@ pub struct Used<'a> {
 
 const MOST_ARITY: u32 = 15;
 const LAST_VARIABLE: u32 = 1_023;
+const LARGEST: u32 = 32_767;
+const MOST_BELOW_0: u32 = 32_768;
 
 pub fn rules(text: &[u8]) -> Result<Rules<'_>, Refused> {
     let tokens = tokens(text);
     let mut parser = Parser {
         tokens: &tokens,
         at: 0,
+        second_format: false,
     };
+    parser.second_format = parser.takes_both(Kind::Name(b"v2"), Kind::Mark(b'.'));
     let mut rules = Rules {
+        second_format: parser.second_format,
         declared: Vec::new(),
         clauses: Vec::new(),
     };
@@ -53,6 +67,7 @@ pub fn rules(text: &[u8]) -> Result<Rules<'_>, Refused> {
 struct Parser<'a, 't> {
     tokens: &'t [Token<'a>],
     at: usize,
+    second_format: bool,
 }
 
 impl<'a> Parser<'a, '_> {
@@ -63,7 +78,11 @@ impl<'a> Parser<'a, '_> {
 
     /// A declaration's second token is a name; a clause's never is.
     fn at_declaration(&self) -> bool {
-        let first = matches!(self.kind(0), Kind::Name(b"fn" | b"pr"));
+        let first = match self.kind(0) {
+            Kind::Name(b"fn" | b"pr") => true,
+            Kind::Name(b"nu") => self.second_format,
+            _ => false,
+        };
         first && matches!(self.kind(1), Kind::Name(_))
     }
 
@@ -78,6 +97,12 @@ impl<'a> Parser<'a, '_> {
     fn takes(&mut self, kind: Kind) -> bool {
         let there = self.kind(0) == kind;
         self.at += there as usize;
+        there
+    }
+
+    fn takes_both(&mut self, first: Kind, second: Kind) -> bool {
+        let there = (self.kind(0), self.kind(1)) == (first, second);
+        self.at += 2 * there as usize;
         there
     }
 
@@ -97,20 +122,35 @@ impl<'a> Parser<'a, '_> {
     }
 
     fn declaration(&mut self) -> Result<Declared<'a>, Refused> {
-        let predicate = self.name()?.1 == b"pr";
+        let keyword = self.name()?.1;
         let (place, name) = self.name()?;
+        let kind = match keyword {
+            b"fn" => Declares::Functor(self.arity()?),
+            b"pr" => Declares::Predicate(self.arity()?),
+            _ => Declares::Number(self.value()?),
+        };
+        self.mark(b'.')?;
+        Ok(Declared { place, name, kind })
+    }
+
+    fn arity(&mut self) -> Result<u16, Refused> {
         self.mark(b'/')?;
         let Kind::Number(arity @ 0..=MOST_ARITY) = self.kind(0) else {
             return self.stuck();
         };
         self.at += 1;
-        self.mark(b'.')?;
-        Ok(Declared {
-            place,
-            name,
-            predicate,
-            arity,
-        })
+        Ok(arity as u16)
+    }
+
+    /// A number's value; there is no `-0`.
+    fn value(&mut self) -> Result<i16, Refused> {
+        let value = match self.kind(0) {
+            Kind::Number(number @ 0..=LARGEST) => number as i32,
+            Kind::Negative(number @ 1..=MOST_BELOW_0) => -(number as i32),
+            _ => return self.stuck(),
+        };
+        self.at += 1;
+        Ok(value as i16)
     }
 
     fn clause(&mut self) -> Result<Vec<Part<'a>>, Refused> {

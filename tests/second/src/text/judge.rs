@@ -1,8 +1,10 @@
 //! Another engine's two calls held against this evaluator, case by case.
 
-use super::{Fault, ReadCase, Refused, WriteCase};
+use super::{second_format, Fault, ReadCase, Refused, WriteCase};
+use crate::deck::NUMBER;
 use crate::guarded::Guarded;
 use crate::judge::same;
+use crate::world::World;
 use std::hint::black_box;
 
 /// The shape of the engine's calls from C: 0, or the number of the refusal.
@@ -42,7 +44,7 @@ impl Engine for Second {
 }
 
 /// What a case must come to, of these names.
-pub const READS: [&str; 11] = [
+pub const READS: [&str; 16] = [
     "read",
     "read: 10, token",
     "read: 10, end",
@@ -54,8 +56,13 @@ pub const READS: [&str; 11] = [
     "read: 1",
     "read: 4",
     "read: 5",
+    "read: 2",
+    "read, format 2",
+    "read, format 2 without numbers",
+    "read: 11, format 2 over 16,384 words",
+    "read: 11, format 2, list too short",
 ];
-pub const WRITES: [&str; 7] = [
+pub const WRITES: [&str; 10] = [
     "written",
     "write: 1",
     "write: 2",
@@ -63,6 +70,9 @@ pub const WRITES: [&str; 7] = [
     "write: 4",
     "write: 5",
     "write: 11",
+    "written, format 2",
+    "written, format 2 without numbers",
+    "write: 11, format 2",
 ];
 
 /// Stands in a result that is not to be written.
@@ -84,7 +94,7 @@ pub fn judge_read(engine: &dyn Engine, case: &ReadCase) -> Result<&'static str, 
             same("refusal", &(number, place), &(0, UNSET))?;
             same("words", &words, &expected.len())?;
             deck.holds("deck", &expected, expected.len())?;
-            Ok(READS[0])
+            Ok(READS[[0, 12, 13][format(&expected)]])
         }
         Err(refused) => {
             let place_then = refused.place().unwrap_or(UNSET);
@@ -96,13 +106,25 @@ pub fn judge_read(engine: &dyn Engine, case: &ReadCase) -> Result<&'static str, 
             same("words", &words, &UNSET)?;
             let free = matches!(refused, Refused::Deck(_));
             deck.holds("deck", &[], if free { case.room } else { 0 })?;
-            Ok(label(refused))
+            Ok(label(refused, second_format(&case.text)))
         }
     }
 }
 
-fn label(refused: Refused) -> &'static str {
+/// 0 for format 1, 1 for format 2, 2 where that has no numbers.
+fn format(deck: &[u16]) -> usize {
+    match deck[0] {
+        1 => 0,
+        _ if World::take_apart(deck, &[]).is_some_and(|world| world.symbols.contains(&NUMBER)) => 1,
+        _ => 2,
+    }
+}
+
+fn label(refused: Refused, second_format: bool) -> &'static str {
     match refused {
+        Refused::Long if second_format => READS[14],
+        Refused::Room if second_format => READS[15],
+        Refused::Deck(2) => READS[11],
         Refused::Text(Fault::Token, _) => READS[1],
         Refused::Text(Fault::End, _) => READS[2],
         Refused::Text(Fault::Twice, _) => READS[3],
@@ -133,13 +155,17 @@ pub fn judge_write(engine: &dyn Engine, case: &WriteCase) -> Result<&'static str
             same("refusal", &number, &0)?;
             same("bytes", &bytes, &expected.len())?;
             text.holds("text", &expected, expected.len())?;
-            Ok(WRITES[0])
+            Ok(WRITES[[0, 7, 8][format(&case.deck)]])
         }
         Err(refused) => {
             same("refusal", &number, &refused)?;
             same("bytes", &bytes, &UNSET)?;
             text.holds("text", &[], 0)?;
-            Ok(WRITES[if refused == 11 { 6 } else { refused as usize }])
+            Ok(match refused {
+                11 if case.deck[0] == 2 => WRITES[9],
+                11 => WRITES[6],
+                _ => WRITES[refused as usize],
+            })
         }
     }
 }

@@ -1,18 +1,18 @@
 //! From names to symbol numbers.
 
-use super::grammar::{Declared, Part, Rules, Used};
+use super::grammar::{Declared, Declares, Part, Rules, Used};
 use super::{Fault, Refused};
+use crate::deck::NUMBER;
 use crate::terms::{NEGATED, VARIABLE};
+use crate::world::World;
 use std::collections::HashMap;
 
 type Numbers<'a> = HashMap<&'a [u8], usize>;
-type Symbols = Vec<u16>;
-type Clauses = Vec<Vec<u16>>;
 
 const PREDICATE: u16 = 256;
 
-/// Symbol words and clauses. Symbol numbers past 14 bits are cut off: such a deck is too long.
-pub fn numbered(rules: &Rules) -> Result<(Symbols, Clauses), Refused> {
+/// Symbols and clauses. Symbol numbers past 14 bits are cut off: such a deck is too long.
+pub fn numbered(rules: &Rules) -> Result<World, Refused> {
     let mut numbers = Numbers::new();
     for (number, declared) in rules.declared.iter().enumerate() {
         if numbers.insert(declared.name, number).is_some() {
@@ -22,12 +22,29 @@ pub fn numbered(rules: &Rules) -> Result<(Symbols, Clauses), Refused> {
     let cell = |part: &Part| cell(rules, &numbers, part);
     let clause = |parts: &Vec<Part>| parts.iter().map(cell).collect();
     let clauses = rules.clauses.iter().map(clause).collect::<Result<_, _>>()?;
-    Ok((rules.declared.iter().map(symbol).collect(), clauses))
+    let (symbols, values) = rules.declared.iter().map(symbol).unzip();
+    Ok(World {
+        symbols,
+        values: Some(values).filter(|_| rules.second_format),
+        clauses,
+        ..World::default()
+    })
 }
 
-fn symbol(declared: &Declared) -> u16 {
-    let kind = if declared.predicate { PREDICATE } else { 0 };
-    kind + declared.arity as u16
+/// The symbol's word, and its second word in format 2.
+fn symbol(declared: &Declared) -> (u16, u16) {
+    match declared.kind {
+        Declares::Functor(arity) => (arity, 0),
+        Declares::Predicate(arity) => (PREDICATE + arity, 0),
+        Declares::Number(value) => (NUMBER, value as u16),
+    }
+}
+
+fn arity(declared: &Declared) -> usize {
+    match declared.kind {
+        Declares::Functor(arity) | Declares::Predicate(arity) => arity as usize,
+        Declares::Number(_) => 0,
+    }
 }
 
 fn cell(rules: &Rules, numbers: &Numbers, part: &Part) -> Result<u16, Refused> {
@@ -41,7 +58,7 @@ fn used_cell(rules: &Rules, numbers: &Numbers, used: &Used) -> Result<u16, Refus
     let Some(number) = numbers.get(used.name) else {
         return Err(Refused::Text(Fault::Undeclared, used.place));
     };
-    if rules.declared[*number].arity as usize != used.arguments {
+    if arity(&rules.declared[*number]) != used.arguments {
         return Err(Refused::Text(Fault::Arity, used.place));
     }
     let sign = if used.negated { NEGATED } else { 0 };

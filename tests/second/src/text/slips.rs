@@ -1,7 +1,7 @@
 //! This evaluator with a slip put in, to see that the comparison finds it.
 
 use super::judge::{Engine, Second};
-use super::{size, Fault, Refused};
+use super::{second_format, size, Fault, Refused};
 
 /// The two calls, each changed somewhere.
 pub struct Slip {
@@ -45,7 +45,7 @@ fn fault(text: &[u8]) -> Option<Fault> {
     }
 }
 
-pub const SLIPS: [Slip; 33] = [
+pub const SLIPS: [Slip; 58] = [
     reading("a tab is spacing", |text, deck, words, place| {
         let spaced = text.iter().map(|byte| if *byte == 9 { 32 } else { *byte });
         instead(spaced.collect(), deck, words, place)
@@ -289,7 +289,149 @@ pub const SLIPS: [Slip; 33] = [
             number => number,
         }
     }),
+    reading("-0 is let through", |text, deck, words, place| replaced(text, "-0.", " 0.", deck, words, place)),
+    reading("32,768 is let through", |text, deck, words, place| {
+        replaced(text, " 32768.", " -32768.", deck, words, place)
+    }),
+    reading("-32,769 is let through", |text, deck, words, place| {
+        replaced(text, "-32769.", " 32767.", deck, words, place)
+    }),
+    reading("-32,768 is refused", |text, deck, words, place| {
+        replaced(text, "-32768.", "-32769.", deck, words, place)
+    }),
+    reading("values are cut to 16 bits", |text, deck, words, place| {
+        replaced(text, "65536.", "0.", deck, words, place)
+    }),
+    reading("a plus is let through", |text, deck, words, place| replaced(text, "+", "", deck, words, place)),
+    reading("a minus may stand apart", |text, deck, words, place| replaced(text, "- ", "-", deck, words, place)),
+    reading("a minus may stand after the digits", |text, deck, words, place| {
+        replaced(text, "5-.", "-5.", deck, words, place)
+    }),
+    reading("a leading zero of a value is let through", |text, deck, words, place| {
+        let places = (1..text.len()).filter(|at| text[*at] == b'0' && matches!(text[at - 1], b'-' | b' '));
+        let before_digit = |at: &usize| text.get(at + 1).is_some_and(u8::is_ascii_digit);
+        let left_out: Vec<usize> = places.filter(before_digit).collect();
+        let kept = (0..text.len()).filter(|at| !left_out.contains(at) || !second_format(text));
+        instead(kept.map(|at| text[at]).collect(), deck, words, place)
+    }),
+    reading("`v2.` may be missing", |text, deck, words, place| match super::read(text, deck.len()) {
+        Err(Refused::Text(..)) if super::read(&marked(text), deck.len()).is_ok() => instead(marked(text), deck, words, place),
+        _ => Second.read(text, deck, words, place),
+    }),
+    reading("`v2.` may come later", |text, deck, words, place| {
+        let later = String::from_utf8_lossy(text).replacen("v2.", "", 1);
+        match super::read(&marked(later.as_bytes()), deck.len()) {
+            Ok(_) => instead(marked(later.as_bytes()), deck, words, place),
+            _ => Second.read(text, deck, words, place),
+        }
+    }),
+    reading("`v2.` twice is let through", |text, deck, words, place| {
+        replaced(text, "v2.v2.", "v2.", deck, words, place)
+    }),
+    reading("spacing before `v2.` is refused", |text, deck, words, place| {
+        spaced_mark_refused(text, deck, words, place, |text| !text.starts_with(b"v2"))
+    }),
+    reading("spacing inside `v2.` is refused", |text, deck, words, place| {
+        spaced_mark_refused(text, deck, words, place, |text| !text.trim_ascii_start().starts_with(b"v2."))
+    }),
+    reading("without numbers format 2 gives format 1", |text, deck, words, place| {
+        let without: Vec<u8> = text.trim_ascii_start().strip_prefix(b"v2.").unwrap_or(text).to_vec();
+        match super::read(text, deck.len()) {
+            Ok(_) if super::read(&without, deck.len()).is_ok() => instead(without, deck, words, place),
+            _ => Second.read(text, deck, words, place),
+        }
+    }),
+    reading("equal values are 10", |text, deck, words, place| match Second.read(text, deck, words, place) {
+        2 => {
+            *place = 0;
+            10
+        }
+        number => number,
+    }),
+    reading("2 before 11", |text, deck, words, place| match super::read(text, usize::MAX) {
+        Err(Refused::Deck(2)) => 2,
+        _ => Second.read(text, deck, words, place),
+    }),
+    reading("2 before 1", |text, deck, words, place| match Second.read(text, deck, words, place) {
+        1 if second_format(text) && text.ends_with(b"nu b -32768.") => 2,
+        number => number,
+    }),
+    reading("a name of 16 bytes and a digit are one", |text, deck, words, place| {
+        let long = |part: &[u8]| part.iter().all(|byte| byte.is_ascii_lowercase() || byte.is_ascii_digit());
+        match super::read(text, deck.len()) {
+            Ok(_) if text.windows(17).any(long) => {
+                *place = 0;
+                10
+            }
+            _ => Second.read(text, deck, words, place),
+        }
+    }),
+    writing("a text of format 2 without `v2.`", |deck, text, bytes| {
+        rewritten(deck, text, bytes, |found| found.replacen("v2.\n", "", 1))
+    }),
+    writing("`v2.` has no line of its own", |deck, text, bytes| {
+        rewritten(deck, text, bytes, |found| found.replacen("v2.\n", "v2.", 1))
+    }),
+    writing("`v2.` only where there are numbers", |deck, text, bytes| {
+        rewritten(deck, text, bytes, |found| match found.contains("\nnu ") {
+            true => found,
+            false => found.replacen("v2.\n", "", 1),
+        })
+    }),
+    writing("values are written without sign", |deck, text, bytes| {
+        rewritten(deck, text, bytes, |found| found.replace(" -", " "))
+    }),
+    writing("values are written as 16 bits", |deck, text, bytes| {
+        rewritten(deck, text, bytes, |found| found.replace(" -1.", " 65535."))
+    }),
+    writing("numbers are written as functors", |deck, text, bytes| {
+        rewritten(deck, text, bytes, |found| {
+            let line = |line: &str| match line.strip_prefix("nu ").and_then(|rest| rest.split_once(' ')) {
+                Some((name, _)) => format!("fn {name}/0.\n"),
+                None => format!("{line}\n"),
+            };
+            found.lines().map(line).collect()
+        })
+    }),
 ];
+
+/// Reads the text with these bytes for those.
+fn replaced(text: &[u8], from: &str, to: &str, deck: &mut [u16], words: &mut usize, place: &mut usize) -> u32 {
+    let text = String::from_utf8_lossy(text).replace(from, to);
+    instead(text.into_bytes(), deck, words, place)
+}
+
+/// With the mark of format 2.
+fn marked(text: &[u8]) -> Vec<u8> {
+    [b"v2.", text].concat()
+}
+
+/// A text that is read has its mark spaced so.
+fn spaced_mark_refused(text: &[u8], deck: &mut [u16], words: &mut usize, place: &mut usize, spaced: fn(&[u8]) -> bool) -> u32 {
+    match super::read(text, deck.len()) {
+        Ok(_) if second_format(text) && spaced(text) => {
+            *place = 0;
+            10
+        }
+        _ => Second.read(text, deck, words, place),
+    }
+}
+
+/// Another text in place of the one that should be written.
+fn rewritten(deck: &[u16], text: &mut [u8], bytes: &mut usize, change: fn(String) -> String) -> u32 {
+    match super::write(deck, usize::MAX) {
+        Ok(found) => {
+            let found = change(String::from_utf8_lossy(&found).into_owned()).into_bytes();
+            if found.len() > text.len() {
+                return 11;
+            }
+            text[..found.len()].copy_from_slice(&found);
+            *bytes = found.len();
+            0
+        }
+        Err(number) => number,
+    }
+}
 
 /// Names cut to 16 bytes.
 fn shorter_names(text: &[u8]) -> Vec<u8> {

@@ -6,6 +6,8 @@ pub enum Kind<'a> {
     /// Its value; past a million it is a million.
     Number(u32),
     Variable(u32),
+    /// A number with a minus before it: the number.
+    Negative(u32),
     /// `:-`
     If,
     /// A dot, a comma, a stroke, a tilde or a bracket.
@@ -61,6 +63,10 @@ fn token(text: &[u8]) -> (Kind<'_>, usize) {
         [b'_', b'0'..=b'9', ..] => {
             let length = digits(&text[1..]);
             (Kind::Variable(value(&text[1..1 + length])), 1 + length)
+        }
+        [b'-', b'0'..=b'9', ..] => {
+            let length = digits(&text[1..]);
+            (Kind::Negative(value(&text[1..1 + length])), 1 + length)
         }
         [b':', b'-', ..] => (Kind::If, 2),
         [mark @ (b'.' | b',' | b'/' | b'~' | b'(' | b')'), ..] => (Kind::Mark(*mark), 1),

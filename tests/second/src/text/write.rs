@@ -10,6 +10,9 @@ const ROOM: u32 = 11;
 pub fn write(deck: &[u16], room: usize) -> Result<Vec<u8>, u32> {
     let deck = deck::open(deck)?;
     let mut lines = Vec::new();
+    if deck.format == 2 {
+        lines.push("v2.".to_string());
+    }
     for (number, symbol) in deck.symbols.iter().enumerate() {
         lines.push(declaration(number, symbol));
     }
@@ -23,7 +26,10 @@ pub fn write(deck: &[u16], room: usize) -> Result<Vec<u8>, u32> {
 
 fn declaration(number: usize, symbol: &Symbol) -> String {
     let kind = if symbol.predicate { "pr" } else { "fn" };
-    format!("{kind} s{number}/{}.", symbol.arity)
+    match symbol.value {
+        Some(value) => format!("nu s{number} {value}."),
+        None => format!("{kind} s{number}/{}.", symbol.arity),
+    }
 }
 
 fn clause(clause: &Clause) -> String {

@@ -3,7 +3,8 @@ use Rattle.std.proofs.Common.{◌≡◌, ℕ, ◌+◌, ◌*◌, ◌%◌, ◌^◌
 use Rattle.std.specs.Prelude.{bit_or}
 use native.Mathlib.Decide.{ℕ_discrete}
 use Rattle.clauses.proofs.rows.mark.Invariants.{Setting}
-use Rattle.clauses.proofs.RowLaws.{marked-one, marked-each, shifted-one}
+use Rattle.deck.proofs.BitLaws.{shifted-one}
+use Rattle.clauses.proofs.RowLaws.{marked-one, marked-each}
 use Rattle.clauses.proofs.rows.mark.Goals as goal
 
 pub returns-then-cell-lt-VARIABLE : goal.returns-then-cell-lt-VARIABLE

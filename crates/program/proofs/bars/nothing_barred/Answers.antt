@@ -13,7 +13,7 @@ use Rattle.program.proofs.bars.nothing_barred.Goals as goal
 counted : (ws : List ℕ) (d : Deck) → open_deck ws ≡ accepted d → (length (symbol_words ws) ≡ length d.symbols) × (length d.symbols ≤ 4096)
 counted ws d e =
     let o = opened-written ws d e in
-    (ap (λ (l : List ℕ). length (symbol_words l)) o.0 ∙ ap length (symbols-part d) ∙ length-map d.symbols write_symbol, o.1.few_symbols)
+    (ap (λ (l : List ℕ). length (symbol_words l)) o.0 ∙ ap length (symbols-part d o.1) ∙ length-map d.symbols write_symbol, o.1.few_symbols)
 
 pub shared_ref_as_front-result : goal.shared_ref_as_front-result
 shared_ref_as_front-result c =

@@ -9,7 +9,7 @@ pub returns-then-fits : goal.returns-then-fits
 returns-then-fits c = λ before e.
     let a = c.args in
     let t = a.all.text.text.now in
-    let f = ap (fitting t) e ∙ fits-fitting t a.all.count a.all.end c.sizes_of-s.result a.all.counted c.sizes_of-s.ensures a.words c.fits.result c.fits.ensures ∙ c.if-fits.true in
+    let f = ap (fitting t) e ∙ fits-fitting t c.sizes_of-s.result c.sizes_of-s.ensures a.words c.fits.result c.fits.ensures ∙ c.if-fits.true in
     did-refuse t before c.requires.0 f before Header (many-symbols t (omega (arith, c.requires.1, a.all.counted.count))) refl
 
 pub returns-else-fits : goal.returns-else-fits
@@ -17,4 +17,4 @@ returns-else-fits c = λ before e.
     let a = c.args in
     let t = a.all.text.text.now in
     did-full t before c.requires.0
-    (ap (fitting t) e ∙ fits-fitting t a.all.count a.all.end c.sizes_of-s.result a.all.counted c.sizes_of-s.ensures a.words c.fits.result c.fits.ensures ∙ c.if-fits.false)
+    (ap (fitting t) e ∙ fits-fitting t c.sizes_of-s.result c.sizes_of-s.ensures a.words c.fits.result c.fits.ensures ∙ c.if-fits.false)

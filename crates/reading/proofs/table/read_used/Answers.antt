@@ -7,7 +7,7 @@ use Rattle.std.specs.Prelude.{Ok}
 use Rattle.std.proofs.lemmas.Result.{err_from_is_err_and}
 use Rattle.rules.specs.Refusals.{checked_number}
 use Rattle.rules.specs.Decks.{open_deck}
-use Rattle.text_rules.specs.Text.{text_declarations, text_words}
+use Rattle.text_rules.specs.Text.{text_words}
 use Rattle.deck.specs.Answers.{number_of}
 use Rattle.reading.specs.Reads.{DidRead}
 use Rattle.reading.proofs.ResultLaws.{fitting, fits-fitting, did-full, did-refuse, did_read, total-room, total-most, size-total, front-words}
@@ -15,7 +15,7 @@ use Rattle.reading.proofs.table.read_used.Goals as goal
 use Rattle.reading.proofs.table.read_used.Goals.{After-fits, After-open}
 
 fits : (c : goal.After-fits) → let t = c.args.names.all.text.text.now in fitting t (length c.args.deck.now) ≡ c.fits.result
-fits c = let a = c.args in let all = a.names.all in fits-fitting all.text.text.now all.count all.end c.sizes_of-s.result all.counted c.sizes_of-s.ensures (length a.deck.now) c.fits.result c.fits.ensures
+fits c = let a = c.args in let all = a.names.all in fits-fitting all.text.text.now c.sizes_of-s.result c.sizes_of-s.ensures (length a.deck.now) c.fits.result c.fits.ensures
 
 -- The words fit.
 fitted : (c : goal.After-fits) → c.fits.result ≡ true → fitting c.args.names.all.text.text.now (length c.args.deck.now) ≡ true
@@ -29,7 +29,7 @@ opened c =
     let W = text_words all.text.text.now in
     c.«open».ensures
     ∙ ap (λ ws. checked_number (open_deck ws))
-    (front-words W (drop (length W) a.deck.now) _ _ c.encode.ensures (size-total all.text.text.now all.count all.end c.sizes_of-s.result all.counted c.sizes_of-s.ensures))
+    (front-words W (drop (length W) a.deck.now) _ _ c.encode.ensures (omega (arith, c.second_words.ensures, size-total all.text.text.now c.sizes_of-s.result c.sizes_of-s.ensures)))
 
 pub returns-then-not-fits : goal.returns-then-not-fits
 returns-then-not-fits c = let a = c.args in did-full a.names.all.text.text.now a.deck.now c.requires (fits (goal.at.returns-then-not-fits c).After-fits ∙ c.if-not-fits.true)
@@ -41,11 +41,10 @@ encode-requires c =
     let t = d.all.text.text.now in
     let p = (goal.at.encode-requires c).After-fits in
     let f = fitted p c.if-not-fits.false in
-    let n : length d.names.now.entries ≡ d.all.count = sym d.declared.count ∙ ap (λ t. length (text_declarations t)) d.same ∙ d.all.counted.count in
     record {
       sized = c.sizes_of-s.ensures;
-      fits = omega (arith, n, total-room t d.all.count d.all.end c.sizes_of-s.result d.all.counted c.sizes_of-s.ensures (length a.deck.now) f);
-      most = omega (arith, n, total-most t d.all.count d.all.end c.sizes_of-s.result d.all.counted c.sizes_of-s.ensures (length a.deck.now) f);
+      fits = total-room t c.sizes_of-s.result c.sizes_of-s.ensures (length a.deck.now) f;
+      most = total-most t c.sizes_of-s.result c.sizes_of-s.ensures (length a.deck.now) f;
     }
 
 pub returns-in_err-open : goal.returns-in_err-open
@@ -59,5 +58,5 @@ pub returns : goal.returns
 returns c =
     let a = c.args in
     let all = a.names.all in
-    subst (λ k. DidRead all.text.text.now a.deck.now (Ok k) c.encode.new.deck) (sym (size-total all.text.text.now all.count all.end c.sizes_of-s.result all.counted c.sizes_of-s.ensures))
+    subst (λ k. DidRead all.text.text.now a.deck.now (Ok k) c.encode.new.deck) (let e : length (text_words all.text.text.now) ≡ _ = omega (arith, c.second_words.ensures, size-total all.text.text.now c.sizes_of-s.result c.sizes_of-s.ensures) in e)
     (did_read all.text.text.now a.deck.now c.requires (fitted (goal.at.returns c).After-fits c.if-not-fits.false) _ (sym (ap number_of c.in_ok-open.was) ∙ opened (goal.at.returns c).After-open) c.encode.ensures)

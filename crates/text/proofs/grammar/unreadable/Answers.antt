@@ -1,5 +1,5 @@
 -- The invariant: the text is read as far as the walk has come.
-use Rattle.std.proofs.Common.{◌≡◌, refl, sym, ap, ◌∙◌, subst}
+use Rattle.std.proofs.Common.{◌≡◌, refl, ap, ◌∙◌, subst}
 use Rattle.std.proofs.Math.Option.{some}
 use Rattle.text_rules.specs.TextGrammar.{follows, next}
 use Rattle.text.specs.declared.tokens.Kind.TheVariants.{Ending}
@@ -8,7 +8,7 @@ use Rattle.text.specs.Kinds.{kind_of}
 use Rattle.text.specs.Scan.{Next}
 use Rattle.text.specs.Tokens.{Ended}
 use Rattle.text.specs.Steps.{state_of, step_of}
-use Rattle.text.proofs.GrammarLaws.{key_tested, no-key}
+use Rattle.text.proofs.GrammarLaws.{no-key}
 use Rattle.text.proofs.ReadLaws.{token_of, read_none, read-on, read_all, read-stops}
 use Rattle.text.proofs.grammar.unreadable.Goals as goal
 use Rattle.text.proofs.grammar.unreadable.Goals.{In-Some, In-None, After-follow, After-follow-2}
@@ -20,7 +20,7 @@ scanned k = subst (λ x. Next x k.loop-t.t-iterator.at k.in-Some.t) k.loop-t.inv
 step : (k : After-follow) → next (follows (state_of k.loop-t.s)) (token_of k.args.text.now k.in-Some.t) ≡ step_of k.follow.result
 step k =
     let u = token_of k.args.text.now k.in-Some.t in
-    k.follow.ensures u refl (key_tested u k.key_of.result (k.key_of.ensures u refl refl) ∙ sym k.is_some-key.ensures)
+    k.follow.ensures u refl (k.key_of-key.ensures u refl refl)
 
 -- The end of the text, and the step over it.
 ended : (k : In-None) → Ended k.args.text.now k.loop-t.t-iterator.at
@@ -34,7 +34,7 @@ loop-t-init c =
     let i = c.into_iter-t-iterator.ensures.into_iter_gives in
     record {
       same = ap (λ w. w.text.now) i ∙ c.new-t-items.ensures.0;
-      read = rw (ap (λ w. w.at) i ∙ c.new-t-items.ensures.1) (read_none c.args.text.now);
+      read = rw (ap (λ w. w.at) i ∙ c.new-t-items.ensures.1) (read_none c.args.text.now c.args.start c.requires);
     }
 
 pub returns-in_default : goal.returns-in_default

@@ -1,15 +1,13 @@
 -- The sum of the lines' lengths.
 use Prim.Native.Nat.{◌≤◌}
 use mathlib.Core.Path.{◌≡◌, ap, ◌∙◌}
-use mathlib.Core.List.{[]}
 use native.Mathlib.Omega.{arith}
 use lib.ListN.{length}
 use Rattle.std.specs.Prelude.{sum_by}
 use Rattle.std.specs.List.{range_with_len}
 use Rattle.std.proofs.Common.{rules}
 use Rattle.std.proofs.lemmas.Iterator.{serves_from_Range}
-use Rattle.text_rules.specs.TextWriter.{symbols_text}
-use Rattle.writing.specs.Writes.{symbols_in}
+use Rattle.writing.specs.Writes.{lines_of}
 use Rattle.writing.specs.Lengths.{symbol_bytes_at}
 use Rattle.writing.proofs.DeckLaws.{few-symbols, symbols-sum}
 use Rattle.writing.proofs.SumLaws.{range-fits, range-sum}
@@ -18,8 +16,8 @@ use Rattle.writing.proofs.lengths.symbols_length.Goals.{After-symbols}
 
 -- What the sum is, and that it is small.
 total :
-    (c : After-symbols) → let text = length (symbols_text 0 (symbols_in c.args.deck.now.words.now) []) in
-    (sum_by (symbol_bytes_at c.args.deck.now.words.now) (range_with_len 0 (length c.symbols.result.now)) ≡ text) × (text ≤ 69632)
+    (c : After-symbols) → let text = length (lines_of c.args.deck.now.words.now) in
+    (sum_by (symbol_bytes_at c.args.deck.now.words.now) (range_with_len 0 (length c.symbols.result.now)) ≡ text) × (text ≤ 73728)
 total c =
     let ws = c.args.deck.now.words.now in
     let k = c.args.deck.now.opens in

@@ -22,7 +22,7 @@ fn shape(name: &'static str, terms: u64, pending: Vec<Vec<u16>>, parked: Vec<Vec
     let world = World {
         symbols: vec![0, 1, 256, 257],
         clauses,
-        query: Vec::new(),
+        ..World::default()
     };
     Shape {
         name,

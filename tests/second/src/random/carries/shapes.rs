@@ -2,6 +2,7 @@
 
 use super::goal;
 use crate::carry::{CarryCase, Given};
+use crate::deck::NUMBER;
 use crate::terms::{NEGATED, VARIABLE};
 use crate::world::World;
 
@@ -37,14 +38,14 @@ impl Shape {
 }
 
 pub fn shapes() -> Vec<Shape> {
-    vec![leads(), propositions(), pairs(), widest(), loose()]
+    vec![leads(), propositions(), pairs(), widest(), loose(), numbers()]
 }
 
 fn world(symbols: &[u16], clauses: &[&[u16]]) -> World {
     World {
         symbols: symbols.to_vec(),
         clauses: clauses.iter().map(|clause| clause.to_vec()).collect(),
-        query: Vec::new(),
+        ..World::default()
     }
 }
 
@@ -119,6 +120,26 @@ fn loose() -> Shape {
         world: world(&[0, 257, 257], &clauses),
         pending: vec![goal(0, 1, &[X, 1, X])],
         parked: vec![goal(1, 1, &[X, NOT + 1, X])],
+        terms: 1,
+    }
+}
+
+/// In format 2: the numbers -3 and 5, f/1 p/1 q/1. p(-3). p(5). p(f(-3)). q(x) if p(x), not p(f(x)).
+fn numbers() -> Shape {
+    let clauses: [&[u16]; 4] = [&[3, 0], &[3, 1], &[3, 2, 0], &[4, X, 3, X, NOT + 3, 2, X]];
+    let values = [65_533, 5, 0, 0, 0];
+    Shape {
+        name: "numbers",
+        world: World {
+            values: Some(values.to_vec()),
+            ..world(&[NUMBER, NUMBER, 1, 257, 257], &clauses)
+        },
+        pending: vec![
+            goal(0, 1, &[0]),
+            goal(0, 2, &[2, 1, 3, 1]),
+            goal(0, 1, &[X, 4, X]),
+        ],
+        parked: vec![goal(2, 1, &[1, NOT + 3, 0])],
         terms: 1,
     }
 }

@@ -2,10 +2,17 @@
 
 use super::draft::{name, Draft};
 use super::Dice;
+use std::ops::Range;
 
-const ANY_TOKEN: [&str; 22] = [
+const ANY_TOKEN: [&str; 28] = [
     "fn",
     "pr",
+    "nu",
+    "v2",
+    "-1",
+    "-0",
+    "-",
+    "5",
     "a",
     "zzzzzzzzzzzzzzzz",
     "0",
@@ -35,7 +42,7 @@ pub fn damage(dice: &mut Dice, draft: &mut Draft) {
         return tokens.push(dice.pick(&ANY_TOKEN).to_string());
     }
     let at = dice.below(tokens.len());
-    match dice.below(15) {
+    match dice.below(18) {
         0 => drop(tokens.remove(at)),
         1 => tokens.insert(at, tokens[at].clone()),
         2 => tokens.swap(at, at.saturating_sub(1)),
@@ -50,6 +57,9 @@ pub fn damage(dice: &mut Dice, draft: &mut Draft) {
         11 => arguments(dice, tokens),
         12 => declared_late(dice, tokens),
         13 => long_clause(dice, tokens),
+        14 => value(dice, tokens),
+        15 => marker(dice, tokens),
+        16 => equal_values(dice, tokens),
         _ => tokens[at] = tokens[dice.below(tokens.len())].clone(),
     }
 }
@@ -125,28 +135,100 @@ fn variable(dice: &mut Dice, tokens: &mut [String]) {
     }
 }
 
-/// A declaration again, as it was or of the other kind or of another arity.
-fn twice(dice: &mut Dice, tokens: &mut Vec<String>) {
-    let number = declarations(tokens);
-    if number == 0 {
+/// A number's value.
+fn value(dice: &mut Dice, tokens: &mut Vec<String>) {
+    let all = declarations(tokens);
+    let values: Vec<usize> = all.iter().filter(|one| one.len() == 4).map(|one| one.start + 2).collect();
+    if values.is_empty() {
         return;
     }
-    let from = 5 * dice.below(number);
-    let mut again = tokens[from..from + 5].to_vec();
+    let at = *dice.pick(&values);
+    let zero = format!("0{}", tokens[at]);
+    let below_0 = format!("-{}", tokens[at]);
+    let others = [
+        "0", "-0", "00", "-00", "-01", "- 5", "--5", "+5", "5-", "32767", "32768", "-32768", "-32769", "65535", "65536", "-65536",
+        "4294967296", "-4294967295", "18446744073709551617", &zero, &below_0, "_0", "a",
+    ];
+    match dice.below(4) {
+        0 => drop(tokens.remove(at)),
+        1 => drop(tokens.splice(at..at, ["/".to_string()])),
+        _ => tokens[at] = dice.pick(&others).to_string(),
+    }
+}
+
+/// The mark of format 2 is lost, doubled, or stands elsewhere.
+fn marker(dice: &mut Dice, tokens: &mut Vec<String>) {
+    let mark = ["v2", "."].map(str::to_string);
+    let there = start(tokens);
+    let ends = declarations(tokens).into_iter().map(|one| one.end);
+    let ends: Vec<usize> = [0, there].into_iter().chain(ends).collect();
+    let at = *dice.pick(&ends);
+    if there > 0 && dice.chance(1, 2) {
+        tokens.drain(..there);
+        let at = at.saturating_sub(there);
+        if dice.chance(1, 2) {
+            tokens.splice(at..at, mark);
+        }
+    } else {
+        tokens.splice(at..at, mark);
+    }
+}
+
+/// A number gets the value of another.
+fn equal_values(dice: &mut Dice, tokens: &mut [String]) {
+    let all = declarations(tokens);
+    let values: Vec<usize> = all.iter().filter(|one| one.len() == 4).map(|one| one.start + 2).collect();
+    if values.len() > 1 {
+        tokens[*dice.pick(&values)] = tokens[*dice.pick(&values)].clone();
+    }
+}
+
+/// A declaration again, as it was or of another kind or of another arity or value.
+fn twice(dice: &mut Dice, tokens: &mut Vec<String>) {
+    let all = declarations(tokens);
+    if all.is_empty() {
+        return;
+    }
+    let mut again = tokens[dice.pick(&all).clone()].to_vec();
+    let last = again.len() - 2;
     match dice.below(3) {
-        0 => again[0] = dice.pick(&["fn", "pr"]).to_string(),
-        1 => again[3] = dice.range(0, 15).to_string(),
+        0 => again[0] = dice.pick(&["fn", "pr", "nu"]).to_string(),
+        1 => again[last] = dice.range(0, 15).to_string(),
         _ => {}
     }
-    let to = 5 * dice.range(0, number);
+    let places: Vec<usize> = all.iter().map(|one| one.start).chain([all[all.len() - 1].end]).collect();
+    let to = *dice.pick(&places);
     tokens.splice(to..to, again);
 }
 
-/// How many declarations there are, if the tokens begin with whole ones.
-fn declarations(tokens: &[String]) -> usize {
-    let whole =
-        |five: &&[String]| five.len() == 5 && ["fn", "pr"].contains(&&*five[0]) && five[2] == "/";
-    tokens.chunks(5).take_while(whole).count()
+/// Where declarations begin: after the mark of format 2, if it is there.
+fn start(tokens: &[String]) -> usize {
+    if tokens.len() > 1 && tokens[0] == "v2" && tokens[1] == "." {
+        2
+    } else {
+        0
+    }
+}
+
+/// The whole declarations that the tokens begin with.
+fn declarations(tokens: &[String]) -> Vec<Range<usize>> {
+    let mut all = Vec::new();
+    let mut at = start(tokens);
+    while let Some(length) = declaration(&tokens[at..]) {
+        all.push(at..at + length);
+        at += length;
+    }
+    all
+}
+
+/// How many tokens the declaration here has, if there is one.
+fn declaration(tokens: &[String]) -> Option<usize> {
+    let token = |at: usize| tokens.get(at).map_or("", |token| token);
+    match (token(0), token(2)) {
+        ("fn" | "pr", "/") if token(4) == "." => Some(5),
+        ("nu", value) if value != "/" && token(3) == "." => Some(4),
+        _ => None,
+    }
 }
 
 /// One argument more or less; brackets more or less.
@@ -168,12 +250,11 @@ fn arguments(dice: &mut Dice, tokens: &mut Vec<String>) {
 }
 
 fn declared_late(dice: &mut Dice, tokens: &mut Vec<String>) {
-    let number = declarations(tokens);
-    if number == 0 {
+    let all = declarations(tokens);
+    if all.is_empty() {
         return;
     }
-    let from = 5 * dice.below(number);
-    let moved: Vec<String> = tokens.drain(from..from + 5).collect();
+    let moved: Vec<String> = tokens.drain(dice.pick(&all).clone()).collect();
     if dice.chance(1, 2) {
         tokens.extend(moved);
     }
@@ -181,10 +262,11 @@ fn declared_late(dice: &mut Dice, tokens: &mut Vec<String>) {
 
 /// A clause of around 256 cells, or just over.
 fn long_clause(dice: &mut Dice, tokens: &mut Vec<String>) {
-    let name = tokens.get(1).cloned().unwrap_or_default();
+    let from = start(tokens);
+    let name = tokens.get(from + 1).cloned().unwrap_or_default();
     let cells = dice.range(254, 259);
     let declared = ["pr", "longest", "/", "0", "."].map(str::to_string);
-    tokens.splice(0..0, declared);
+    tokens.splice(from..from, declared);
     let name = if dice.chance(1, 8) {
         name.as_str()
     } else {
@@ -218,7 +300,7 @@ fn byte(dice: &mut Dice) -> u8 {
     if dice.chance(1, 4) {
         return dice.word() as u8;
     }
-    *dice.pick(b" \n\t\r\0.,/~():-_0123456789abfnprz:.AZ;%\x7f\x80\xff")
+    *dice.pick(b" \n\t\r\0.,/~():-_0123456789abfnpruvz:.-+AZ;%\x7f\x80\xff")
 }
 
 /// Tokens in any order, or bytes in any order.

@@ -1,9 +1,12 @@
 //! A text as the list of its tokens.
 
 use super::Dice;
+use crate::deck::NUMBER;
 use crate::terms::{NEGATED, VARIABLE};
 use crate::world::World;
 use std::collections::HashSet;
+
+const LONGEST_NAME: usize = 16;
 
 pub struct Draft {
     pub tokens: Vec<String>,
@@ -14,14 +17,26 @@ impl Draft {
     pub fn new(dice: &mut Dice, world: &World) -> Draft {
         let names = names(dice, world.symbols.len());
         let mut draft = Draft { tokens: Vec::new() };
-        for (name, word) in names.iter().zip(&world.symbols) {
-            let kind = if *word < 256 { "fn" } else { "pr" };
-            draft.add(&[kind, name, "/", &(word % 256).to_string(), "."]);
+        if world.format() == 2 {
+            draft.add(&["v2", "."]);
+        }
+        for (at, name) in names.iter().enumerate() {
+            draft.declaration(world, at, name);
         }
         for clause in &world.clauses {
             draft.clause(world, &names, clause);
         }
         draft
+    }
+
+    fn declaration(&mut self, world: &World, at: usize, name: &str) {
+        let word = world.symbols[at];
+        if word == NUMBER {
+            let value = world.values.as_ref().map_or(0, |values| values[at] as i16);
+            return self.add(&["nu", name, &value.to_string(), "."]);
+        }
+        let kind = if word < 256 { "fn" } else { "pr" };
+        self.add(&[kind, name, "/", &(word % 256).to_string(), "."]);
     }
 
     fn add(&mut self, tokens: &[&str]) {
@@ -67,12 +82,14 @@ impl Draft {
     pub fn spaced(&self, dice: &mut Dice) -> Vec<u8> {
         let often = *dice.pick(&[0, 0, 1, 4, 9]);
         let mut text = Vec::new();
-        for token in &self.tokens {
+        for (at, token) in self.tokens.iter().enumerate() {
             let wordy = |byte: &u8| byte.is_ascii_lowercase() || byte.is_ascii_digit();
             let run_on =
                 text.last().is_some_and(wordy) && token.as_bytes().first().is_some_and(wordy);
-            // Digits may run on from a name or a number, as in `a/00`.
-            let apart = run_on && !token.as_bytes()[0].is_ascii_digit();
+            // Digits may run on from a number, as in `a/00`, and from a name that can't be longer.
+            let before = at.checked_sub(1).map_or("", |before| &self.tokens[before]);
+            let whole = before.starts_with(|byte: char| byte.is_ascii_digit()) || before.len() >= LONGEST_NAME;
+            let apart = run_on && !(whole && token.as_bytes()[0].is_ascii_digit());
             if apart || dice.chance(often, 10) {
                 text.extend(spacing(dice));
             }

@@ -3,13 +3,19 @@
 use super::Dice;
 
 pub fn text(dice: &mut Dice) -> Vec<u8> {
-    match dice.below(4) {
+    match dice.below(6) {
         0 | 1 => {
             let words = dice.range(16_380, 16_390);
             let symbols = dice.range(2, 4_000);
             sized(words, symbols)
         }
         2 => declared(dice.range(4_090, 4_100)),
+        3 => {
+            let words = dice.range(16_380, 16_390);
+            let symbols = dice.range(2, 4_000);
+            sized_numbers(words, symbols)
+        }
+        4 => numbered(dice.range(4_090, 4_100)),
         _ => {
             let (deep, close) = (dice.range(100, 3_000), dice.range(0, 3_000));
             nested(deep, close, dice.below(3))
@@ -19,9 +25,16 @@ pub fn text(dice: &mut Dice) -> Vec<u8> {
 
 /// A text whose deck has just so many words, with so many symbols: facts of two words, and one longer rule if need be.
 pub fn sized(words: usize, symbols: usize) -> Vec<u8> {
-    let mut text = declared(symbols - 1);
-    text.extend(b"pr p/0.\n");
-    let left = words - 8 - symbols;
+    [declared(symbols - 1), facts(words - 8 - symbols)].concat()
+}
+
+/// The same in format 2, with numbers.
+pub fn sized_numbers(words: usize, symbols: usize) -> Vec<u8> {
+    [numbered(symbols - 1), facts(words - 8 - 2 * symbols)].concat()
+}
+
+fn facts(left: usize) -> Vec<u8> {
+    let mut text = b"pr p/0.\n".to_vec();
     for at in 0..left / 2 {
         let odd = at == 0 && left % 2 == 1;
         text.extend(if odd { &b"p :- ~p.\n"[..] } else { b"p.\n" });
@@ -33,6 +46,13 @@ pub fn sized(words: usize, symbols: usize) -> Vec<u8> {
 pub fn declared(number: usize) -> Vec<u8> {
     let line = |at: usize| format!("fn a{at}/{}.\n", at % 16);
     (0..number).map(line).collect::<String>().into_bytes()
+}
+
+/// So many declarations of numbers, the least value first.
+pub fn numbered(number: usize) -> Vec<u8> {
+    let line = |at: usize| format!("nu a{at} {}.\n", at as i64 - 32_768);
+    let lines: String = (0..number).map(line).collect();
+    ["v2.\n", &lines].concat().into_bytes()
 }
 
 /// So many declarations; a clause; each name used in a fact, the last one first; and another clause.

@@ -1,5 +1,5 @@
 -- The invariant: the declarations up to a place are in the table.
-use Rattle.std.proofs.Common.{ℕ, ◌≡◌, refl, sym, ap, ◌∙◌, subst, length}
+use Rattle.std.proofs.Common.{◌≡◌, refl, sym, ap, ◌∙◌, subst, length}
 use Rattle.std.specs.List.{slice_range}
 use Rattle.text_rules.specs.TextWords.{declared_twice}
 use Rattle.text_rules.specs.Text.{text_declarations, place_of}
@@ -7,6 +7,7 @@ use Rattle.std.proofs.Math.Option.{some}
 use Rattle.text.specs.Hash.{last_with, found_at, is_name}
 use Rattle.text.specs.Names.{Table, name_at}
 use Rattle.text.specs.declared.readable.Readable.{Readable}
+use Rattle.naming.specs.declared.declarations.Symbol.{Symbol}
 use Rattle.naming.specs.Walks.{Declares, Ends}
 use Rattle.naming.proofs.WalkLaws.{looked_up, passed_counted, some_there, nothing_there}
 use Rattle.naming.proofs.TableLaws.{all-declared, filled-twice, filled-one}
@@ -45,11 +46,11 @@ loop-d-preserved c =
     let h = declares (goal.at.loop-d-preserved c).In-Some (same (goal.at.loop-d-preserved c).After-next) in
     let s = c.in-Some.ensures.steps in
     let z = nothing_there c.find.result (sym c.is_some.ensures ∙ c.if-is_some.false) in
-    let more = filled-one t l.d-iterator.at l.invariant.filled d h c.find.result (found (goal.at.loop-d-preserved c).After-find) z _ refl refl c.word.ensures in
+    let more = filled-one t l.d-iterator.at l.invariant.filled d h c.find.result (found (goal.at.loop-d-preserved c).After-find) z _ refl refl refl in
     record {
       filled = rw (c.enter.ensures, s.onward.1) more;
       same_walk = s.text ∙ l.invariant.same_walk;
-      same_names = ap (λ (t : Table ℕ). t.text) c.enter.ensures ∙ l.invariant.same_names;
+      same_names = ap (λ (t : Table Symbol). t.text) c.enter.ensures ∙ l.invariant.same_names;
       same_end = sym s.onward.1;
     }
 

@@ -5,4 +5,4 @@ use Rattle.text.proofs.ReadLaws.{no_place}
 use Rattle.text.proofs.readable.Readable.new.Goals as goal
 
 pub invariant_of-result : goal.invariant_of-result
-invariant_of-result c = record { in_grammar = no_place c.args.text.now _ (c.unreadable.ensures ∙ ap option_of c.in-None.is) }
+invariant_of-result c = record { starts = c.of-start.ensures; in_grammar = no_place c.args.text.now _ (c.unreadable.ensures ∙ ap option_of c.in-None.is) }

@@ -1,0 +1,4 @@
+pub mod InputLaws
+pub mod TellLaws
+pub mod LineLaws
+pub mod PublicMean

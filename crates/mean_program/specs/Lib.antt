@@ -1,0 +1,2 @@
+pub mod MeanProgram
+pub mod Told
