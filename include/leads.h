@@ -22,6 +22,7 @@
  *   leads_read_text   10, 11, then 1 to 5
  *   leads_write_text  1 to 5, 11
  *   leads_continue    1 to 5, 8, 9, 12, 13, 15, 16
+ *   leads_press       1 to 5, 8, 9, 12, 13, 15, 16
  *   leads_drill       1 to 5, 19
  *   leads_levels      1 to 5
  *   leads_mean        1 to 5, 17, 18
@@ -125,6 +126,25 @@ uint32_t leads_continue(const uint16_t *deck, size_t deck_words, uint64_t pendin
                         const uint16_t *bars, size_t bar_words, uint32_t budget, uint16_t *answers, size_t answer_words,
                         uint16_t *store, size_t store_words, uint16_t *scratch, size_t scratch_words, uint32_t *stop, uint32_t *steps, uint32_t *cost, uint64_t *answer_count,
                         uint32_t *pending_after, uint32_t *parked_after);
+
+/* Presses: takes one step of level 0 with all of its inner levels, from the goals at the start of the store. Refusals as leads_continue, on a
+ * finished query too. The five numbers from steps on are a display's record, which goes in and comes back:
+ *   struct leads_display { uint64_t steps, cost, answer_count, pending, parked; };
+ *   struct leads_display d = {0, 0, 0, pending, parked};   the first record, with the numbers that leads_run with budget 0 has returned
+ *   leads_press(.., &outcome, &d.steps, &d.cost, &d.answer_count, &d.pending, &d.parked);
+ * pending and parked are the numbers of goals that the store begins with, before the press and after it; terms and bars are as in leads_continue,
+ * and terms is no part of the record. What a press leaves is not refused for the same list. Where it returns 0:
+ *   outcome       4 where the step was taken (and with it each "not" in it), or the stop that prevented it: 0 nothing is pending, 1 to 3 as
+ *                 in leads_run
+ *   steps, cost   grow by those of the press. A press that is cut short (1 to 3) leaves the goals as it found them, and adds what it has
+ *                 spent: 0 where level 0's own step was not taken, else the "not" and the steps of its inner levels
+ *   answer_count  grows by the answer found: one at most, at the start of this press's list; the words after it are untouched
+ * The three counts stay at 18,446,744,073,709,551,615 rather than wrap. A press on a finished query (0) changes nothing: no word of answers,
+ * store or scratch, and no number but outcome. */
+uint32_t leads_press(const uint16_t *deck, size_t deck_words, uint64_t terms, const uint16_t *bars, size_t bar_words,
+                     uint32_t budget, uint16_t *answers, size_t answer_words, uint16_t *store, size_t store_words,
+                     uint16_t *scratch, size_t scratch_words, uint32_t *outcome, uint64_t *steps, uint64_t *cost,
+                     uint64_t *answer_count, uint64_t *pending, uint64_t *parked);
 
 /* Lists drill terms: all variable-free terms of at most n cells over the deck's functors, n from 0 to 8, shorter first, then by cells
  * compared left to right as numbers; each one time. Refusals 1 to 5, then 19 where n is over 8 or the given term (`after`) is not of that

@@ -19,10 +19,10 @@ use Rattle.std.specs.Int.{from_le_bytes}
 use Rattle.std.proofs.Common.{slice_range, w64, zero, suc}
 use lib.Seq.{drop-cons}
 use lib.Dec.{leb}
-use Rattle.rules.specs.Refusals.{bad_goals, refused, accepted, and_then, require, obtain}
+use Rattle.rules.specs.Refusals.{bad_goals, Checked, refused, accepted, and_then, require, obtain}
 use Rattle.rules.specs.Program.{even}
 use Rattle.rules.specs.CarryProgram.{budget_after, number_from, goals_input}
-use Rattle.std.proofs.Math.Option.{some}
+use Rattle.std.proofs.Math.Option.{Option, none, some}
 
 -- BUDGETS, byte by byte
 budget_after-none : (n : ℕ) (bytes : List ℕ) → length bytes ≡ 0 → budget_after n bytes ≡ n
@@ -70,24 +70,31 @@ number_from-slice bytes at =
     let eight : (at + 8) - at ≡ 8 = omega arith in
     sym (number_from-eight _) ∙ ap (λ (n : ℕ). number_from 8 (take n (drop at bytes))) eight ∙ number_from-take 8 (drop at bytes)
 
--- FILES OF GOALS, by their lengths
-abbrev goals_size : Bor (List ℕ) → Bool
-goals_size bytes = even bytes.now && (leb 24 (length bytes.now) && leb (length bytes.now) 32792)
+-- FILES OF WORDS by their lengths: a whole one comes to its bytes, and no file or another to 12.
+module _ (least most : ℕ) (input : Option (List ℕ) → Checked (List ℕ)) where
+  abbrev pub file_size : List ℕ → Bool
+  file_size bytes = even bytes && (leb least (length bytes) && leb (length bytes) most)
 
-goals-missing : (file : Lent (Bor (List ℕ))) → (file ≡ None) ⊎ ((bytes : Bor (List ℕ)) × (file ≡ Some bytes) × (goals_size bytes ≡ false)) → goals_input (file_of file) ≡ refused bad_goals
+  pub record BySize : Type 0 where
+    pub missing : input none ≡ refused bad_goals
+    pub unfit : (bytes : List ℕ) → file_size bytes ≡ false → input (some bytes) ≡ refused bad_goals
+    pub whole : (bytes : List ℕ) → file_size bytes ≡ true → input (some bytes) ≡ accepted bytes
+
+  module _ (s : BySize) where
+    file-unfit : (file : Lent (Bor (List ℕ))) → (file ≡ None) ⊎ ((bytes : Bor (List ℕ)) × (file ≡ Some bytes) × (file_size bytes.now ≡ false)) → input (file_of file) ≡ refused bad_goals
+    file-unfit file (inl e) = rw e s.missing
+    file-unfit file (inr (bytes, e, f)) = rw e (s.unfit bytes.now f)
+
+    -- What the size's test keeps of a file.
+    pub file-comes : {Gives : Bor (List ℕ) → Bool → Type 0} → ((x : Bor (List ℕ)) (b : Bool) → Gives x b → b ≡ file_size x.now) → (file kept : Lent (Bor (List ℕ)))
+        → MatchOption file (kept ≡ None) (λ x. (b : Bool) × Gives x b × (kept ≡ then_some b x))
+        → ComesTo (input (file_of file)) (ok_or kept Goals) × IfOk (ok_or kept Goals) (λ bytes. (least ≤ length bytes.now) × (length bytes.now ≤ most))
+    file-comes says file None k = (file-unfit file (filter-none (λ (x : Bor (List ℕ)). file_size x.now) says file None k refl), tt)
+    file-comes says file (Some bytes) k =
+        let f = filter-some (λ (x : Bor (List ℕ)). file_size x.now) says file (Some bytes) k bytes refl in
+        (rw f.0 (s.whole bytes.now f.1), words-size bytes.now least most f.1)
+
+-- The file of goals.
+pub goals-sized : BySize 24 32792 goals_input
 unfolding goals_input and_then require obtain
-goals-missing file (inl e) = rw e refl
-goals-missing file (inr (bytes, e, f)) = rw (e, f) refl
-
-goals-whole : (bytes : List ℕ) → (even bytes && (leb 24 (length bytes) && leb (length bytes) 32792)) ≡ true → goals_input (some bytes) ≡ accepted bytes
-unfolding goals_input and_then require obtain
-goals-whole bytes e = rw e refl
-
--- What the size's test keeps of a file.
-pub goals-come : {Gives : Bor (List ℕ) → Bool → Type 0} → ((x : Bor (List ℕ)) (b : Bool) → Gives x b → b ≡ goals_size x) → (file kept : Lent (Bor (List ℕ)))
-    → MatchOption file (kept ≡ None) (λ x. (b : Bool) × Gives x b × (kept ≡ then_some b x))
-    → ComesTo (goals_input (file_of file)) (ok_or kept Goals) × IfOk (ok_or kept Goals) (λ bytes. (24 ≤ length bytes.now) × (length bytes.now ≤ 32792))
-goals-come says file None k = (goals-missing file (filter-none goals_size says file None k refl), tt)
-goals-come says file (Some bytes) k =
-    let f = filter-some goals_size says file (Some bytes) k bytes refl in
-    (rw f.0 (goals-whole bytes.now f.1), words-size bytes.now 24 32792 f.1)
+goals-sized = record { missing = refl; unfit = λ bytes e. rw e refl; whole = λ bytes e. rw e refl }

@@ -1,5 +1,5 @@
 -- What the runs of the two programs come to and leave, on their buffers.
-use Prim.Native.Nat.{ℕ, suc, ◌*◌, ◌≤◌}
+use Prim.Native.Nat.{ℕ, suc, ◌+◌, ◌*◌, ◌≤◌}
 use mathlib.Core.Path.{◌≡◌, refl, ap, sym, ◌∙◌, subst}
 use mathlib.Core.Bool.{true}
 use mathlib.Core.Option.{Option, some}
@@ -133,9 +133,11 @@ stored-from {n} {store} {words} p h =
     let w = put-printed p (omega (arith, length-replicate {A = ℕ} 16384 0)) in
     w.bytes ∙ ap (λ (k : ℕ). words ++ drop k (replicate 16384 0)) w.number
 
-pub goals-stored : (bytes part : List ℕ) {n : ℕ} {store : List ℕ} → part ≡ drop 24 bytes → length bytes ≤ 32792 → Put (replicate 16384 0) 0 (words_from part) n store → store ≡ store_from (words_from (drop 24 bytes))
-goals-stored bytes part {n} {store} e h p =
-    stored-from (subst (λ (xs : List ℕ). Put (replicate 16384 0) 0 (words_from xs) n store) e p) (omega (arith, words-few (drop 24 bytes), length-drop 24 bytes))
+-- The words of a file after its numbers.
+pub goals-stored : (front : ℕ) (bytes part : List ℕ) {n : ℕ} {store : List ℕ} → part ≡ drop front bytes → length bytes ≤ front + 32768 → Put (replicate 16384 0) 0 (words_from part) n store
+    → store ≡ store_from (words_from (drop front bytes))
+goals-stored front bytes part {n} {store} e h p =
+    stored-from (subst (λ (xs : List ℕ). Put (replicate 16384 0) 0 (words_from xs) n store) e p) (omega (arith, words-few (drop front bytes), length-drop front bytes))
 
 pub carry-deck : (deck_words bytes : List ℕ) (file : Option (List ℕ)) (budget : ℕ) (n : Refusal) → open_deck deck_words ≡ refused n → carry_bytes deck_words bytes file budget ≡ refused n
 unfolding carry_bytes

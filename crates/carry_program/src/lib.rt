@@ -19,9 +19,9 @@ use program::input::{opened_deck, query_words};
 use program::lists::Lists;
 use resolvents::fresh::variables;
 
-mod bars;
+pub mod bars;
 mod ending;
-mod input;
+pub mod input;
 pub mod output;
 
 // As the program, with a member's list and a budget in files, if there are any, and with the goals left. Both outputs begin with their bytes, and their other bytes stay.

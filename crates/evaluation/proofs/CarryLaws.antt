@@ -28,10 +28,10 @@ use Rattle.std.specs.Option.{ok_or}
 use Rattle.stored.specs.Passing.{OpenFound}
 use Rattle.rights.specs.Reached.{AreGoals}
 use Rattle.report.specs.declared.Report.{Report}
-use Rattle.top_level.specs.Top.{InOrder, Topped}
+use Rattle.top_level.specs.Top.{InOrder}
 use Rattle.evaluation.specs.Results.{check_goals, result_of, slices, OpenAs, CarriedAs}
 use Rattle.deck.proofs.RefusalLaws.{number-accepts, number-refuses}
-use Rattle.evaluation.proofs.RunLaws.{passes, sizes-are, from-refused, from-accepted, gives-refused, gives-accepted}
+use Rattle.evaluation.proofs.RunLaws.{passes, sizes-are, RunTops, from-refused, from-accepted, gives-refused, gives-accepted}
 
 -- Words open as one deck.
 pub one-deck : (ws : List ℕ) (d e : Deck) → open_deck ws ≡ accepted d → open_deck ws ≡ accepted e → d ≡ e
@@ -137,6 +137,10 @@ module _ (deck_words : List ℕ) (n k terms : ℕ) (store scratch : List ℕ) wh
     pub carried-opens : open_deck deck_words ≡ accepted h.0.deck
     carried-opens = (carry-parts deck_words n k terms store (length scratch) h.0 h.1).0
 
+    -- Where the goals end.
+    pub carried-inside : (p.0 ≤ p.1) × (p.1 ≤ length store)
+    carried-inside = let o = h.2 in (omega (arith, o.parked_words), o.inside)
+
     -- The words of the goals, for the checks of a member's rights.
     pub carried-goals : AreGoals h.0.deck.symbols (take p.1 store) (unmarked h.0.goals.pending ++ h.0.goals.parked)
     carried-goals = goals-are h.2
@@ -155,7 +159,7 @@ module _ (deck_words : List ℕ) (n k terms : ℕ) (store scratch : List ℕ) wh
 
       pub ran-on-accepted : 0 ≡ checked_number (check_rights h.0.deck bars (unmarked h.0.goals.pending ++ h.0.goals.parked))
           → (answers' store' scratch' : List ℕ) (r : Report) → length store' ≡ length store → length scratch' ≡ length scratch
-          → ((d : Deck) (gs : List Goal) (ms : List Marked) → open_deck deck_words ≡ accepted d → InOrder d.symbols store p.0 p.1 gs ms → Topped d answers store gs ms budget answers' store' r)
+          → ((d : Deck) (gs : List Goal) (ms : List Marked) → open_deck deck_words ≡ accepted d → InOrder d.symbols store p.0 p.1 gs ms → RunTops d (length store) answers gs ms budget answers' store' r)
           → RanOn deck_words n k terms bars budget (slices answers store scratch) (result_of (Ok r)) (slices answers' store' scratch')
       ran-on-accepted e answers' store' scratch' r same rest topped =
           let x = h.0 in

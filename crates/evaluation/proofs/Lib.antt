@@ -1,7 +1,9 @@
 pub mod RunLaws
 pub mod CarryLaws
+pub mod PressLaws
 pub mod PublicRun
 pub mod PublicTight
 pub mod PublicCarry
+pub mod PublicPress
 pub mod PublicRanks
 pub mod PublicRights

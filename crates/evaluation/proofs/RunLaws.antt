@@ -13,7 +13,7 @@ use Rattle.rules.specs.Decks.{open_deck, read_query, symbol_words}
 use Rattle.rules.specs.Loose.{check_tight_query}
 use Rattle.rules.specs.Goals.{unmarked, write_goals, words_of, first_goal}
 use Rattle.rules.specs.Evaluation as rules
-use Rattle.rules.specs.Evaluation.{Outcome, evaluate, evaluate_level, zeroth, outcome, stop_of}
+use Rattle.rules.specs.Evaluation.{Outcome, evaluate, evaluate_level, zeroth, outcome, stop_of, stopped}
 use Rattle.rules.specs.Rights.{check_rights}
 use Rattle.rules.specs.Run.{run_from, run, check_sizes, report, returned, answers_after, store_start, Slices, Leaves, Gives}
 use Rattle.rules.proofs.GoalLaws.{goals-length, unmarked-words}
@@ -26,7 +26,7 @@ use Rattle.deck.specs.Answers.{number_of, refusal_for, check_words}
 use Rattle.deck.proofs.RefusalLaws.{number-positive, refused-number, number-accepts, number-refuses}
 use Rattle.report.specs.Reports.{stop_of as stop_of'}
 use Rattle.report.specs.declared.Report.{Report}
-use Rattle.top_level.specs.Top.{Queries, opening, Topped}
+use Rattle.top_level.specs.Top.{Queries, opening, Topped, of_report}
 use Rattle.rules.specs.Goals.{Marked}
 use Rattle.rules.specs.Syntax.{Goal}
 use Rattle.evaluation.specs.Results.{check_sized, Asked, check_fresh, result_of, slices}
@@ -245,24 +245,19 @@ pub gives-refused : (c : Checked Outcome) (s : Slices) (why : declared.Refusal) 
 unfolding returned Leaves
 gives-refused c s why r = record { returns = sym (ap returned r); leaves = subst (λ (x : Checked Outcome). Leaves x s s) (sym r) refl }
 
--- Level 0's run asks of the store at its start only how long it is.
-pub topped-as : {d : Deck} {answers store₁ store answers' store' : List ℕ} {gs : List Goal} {ms : List Marked} {total : ℕ} {r : Report} → length store₁ ≡ length store
-    → Topped d answers store₁ gs ms total answers' store' r → Topped d answers store gs ms total answers' store' r
-topped-as {d} {answers} {gs = gs} {ms} {total} e t =
-    record {
-      level = t.level;
-      ends = ap (λ (n : ℕ). evaluate_level d.clauses (length answers) n 32 zeroth (opening gs ms) (rules.opening total)) (sym e) ∙ t.ends;
-      account = t.account;
-      steps = t.steps;
-      cost = t.cost;
-      listed = t.listed;
-      answered = t.answered;
-      ordered = t.ordered;
-    }
+-- What level 0's run leaves, from the goals gs pending and ms parked, in a store of so many words.
+abbrev pub RunTops : Deck → ℕ → List ℕ → List Goal → List Marked → ℕ → List ℕ → List ℕ → Report → Type 0
+RunTops d store_size answers gs ms total answers' store' r =
+    Topped (evaluate_level d.clauses (length answers) store_size 32 zeroth (opening gs ms) (rules.opening total)) (stopped (stop_of' r.stop)) answers total answers' store' (of_report r)
+
+-- It asks of the store at its start only how long it is.
+pub topped-as : (d : Deck) (gs : List Goal) (ms : List Marked) (r : Report) {n m total : ℕ} {answers answers' store' : List ℕ} → n ≡ m
+    → RunTops d n answers gs ms total answers' store' r → RunTops d m answers gs ms total answers' store' r
+topped-as d gs ms r {total = total} {answers} {answers'} {store'} e t = subst (λ (k : ℕ). RunTops d k answers gs ms total answers' store' r) e t
 
 module _ (d : Deck) (gs : List Goal) (ms : List Marked) (total : ℕ) (answers store scratch answers' store' scratch' : List ℕ) (r : Report) where
   pub gives-accepted : (c : Checked Outcome) → c ≡ accepted (evaluate d (length answers) (length store) gs ms total)
-      → length store' ≡ length store → length scratch' ≡ length scratch → Topped d answers store gs ms total answers' store' r
+      → length store' ≡ length store → length scratch' ≡ length scratch → RunTops d (length store) answers gs ms total answers' store' r
       → Gives c (slices answers store scratch) (result_of (Ok r)) (slices answers' store' scratch')
   unfolding evaluate outcome stop_of returned report Leaves answers_after store_start
   gives-accepted c e same rest t =

@@ -3,13 +3,16 @@ use Rattle.std.specs.Prelude.{ℕ, ◌≡◌, List, Result, Ok, Err}
 use Rattle.rules.specs.Refusals as rules
 use Rattle.rules.specs.Refusals.{and_then as ◌>>=◌}
 use Rattle.rules.specs.Run as run
-use Rattle.rules.specs.Syntax.{Symbol, Literal, Deck}
+use Rattle.rules.specs.Syntax.{Symbol, Literal, Deck, Goal}
+use Rattle.rules.specs.Goals.{Marked}
 use Rattle.rules.specs.Stored.{OpenGoals, read_open}
 use Rattle.rules.specs.Decks.{open_deck, read_query}
 use Rattle.rules.specs.Loose.{check_tight, check_tight_query}
 use Rattle.report.specs.Reports.{report_of}
 use Rattle.deck.specs.Answers.{refusal_for, check_words}
-use Rattle.top_level.specs.Top.{InOrder}
+use Rattle.top_level.specs.Top.{Stored, opening, InOrder}
+use Rattle.top_level.specs.declared.Start.{Start}
+use Rattle.evaluation.specs.declared.carry.Open.{Open}
 use Rattle.deck.specs.declared.Refusal.{Refusal}
 use Rattle.report.specs.declared.Report.{Report}
 
@@ -50,6 +53,15 @@ abbrev pub CarriedAs : rules.Checked run.Carried → List ℕ → Result (ℕ ×
 CarriedAs c store (Ok p) =
     (x : run.Carried) × (c ≡ rules.accepted x) × InOrder x.deck.symbols store p.0 p.1 x.goals.pending x.goals.parked
 CarriedAs c store (Err why) = c ≡ rules.refused (refusal_for why)
+
+abbrev pub places : Result Open Refusal → Result (ℕ × ℕ) Refusal
+places (Ok o) = Ok ((o.held, o.end))
+places (Err why) = Err why
+
+-- The goals stored in order, as a run holds them.
+pub record Resumed (store : List ℕ) (middle end total : ℕ) (store' : List ℕ) (start : Start) : Type 0 where
+  pub budget : start.budget ≡ total
+  pub stored : (S : List Symbol) (gs : List Goal) (ms : List Marked) → InOrder S store middle end gs ms → Stored S store' start.parts.parked start.parts.held (opening gs ms)
 
 abbrev pub slices : List ℕ → List ℕ → List ℕ → run.Slices
 slices answers store scratch = record { answers = answers; store = store; scratch = scratch }

@@ -1,10 +1,10 @@
 // Carrying on from the open goals in the store (document 02, U4).
-ghost use Rattle.std.specs.Prelude.{◌≡◌};
+ghost use Rattle.std.specs.Prelude.{◌≡◌, ◌≤◌, length, IfOk};
 ghost use Rattle.rules.specs.Syntax.{Deck};
 ghost use Rattle.rules.specs.Refusals.{accepted};
 ghost use Rattle.rules.specs.Decks.{open_deck};
-ghost use Rattle.rules.specs.Run.{RanOn};
-ghost use Rattle.evaluation.specs.Results.{check_goals, result_of, slices, OpenAs};
+ghost use Rattle.rules.specs.Run.{carry, RanOn};
+ghost use Rattle.evaluation.specs.Results.{check_goals, result_of, slices, places, OpenAs, CarriedAs, Resumed};
 
 use crate::{from_goals, sizes};
 use clauses::Clauses;
@@ -26,6 +26,35 @@ fn open_goals(deck: &Opened, counts: OpenCounts, store: &[u16]) -> Result<(usize
     Ok(goals)
 }
 
+// Open goals on a deck that opened: the places in the store after the pending ones and after the parked ones.
+#[derive(Clone, Copy)]
+pub struct Open<'a> {
+    pub deck: Opened<'a>,
+    pub held: usize,
+    pub end: usize,
+}
+
+// Refusals 1 to 5 of the deck, 8 and 9 of the sizes, then 12 of the goals and 13 of the deck; or the open goals.
+pub fn carried<'a>(
+    deck: &'a [u16],
+    counts: OpenCounts,
+    store: &[u16],
+    scratch: usize,
+    table: &'a mut [u16; 4096],
+) -> Result<Open<'a>, Refusal>
+    ensures goals { CarriedAs (carry deck.now counts.pending counts.parked counts.terms store.now scratch) store.now (places result) }
+    ensures words { IfOk result (λ o. o.deck.words.now ≡ deck.now) }
+{
+    let opened = Opened::new(deck, table)?;
+    sizes(store.len(), scratch)?;
+    let (held, end) = open_goals(&opened, counts, store)?;
+    Ok(Open {
+        deck: opened,
+        held,
+        end,
+    })
+}
+
 // THE PUBLIC CALL: a run that carries on from the goals that the store begins with, `pending` of them pending and then `parked` of them parked, each of
 // `terms` answer terms. Refusals 1 to 5 of the deck, 8 and 9 of the sizes, then 12 of the goals, 13 of the deck, and 15 and 16 of the member's list. A refusal leaves answers, store
 // and scratch untouched. An accepted run leaves what a fresh one does.
@@ -43,21 +72,27 @@ pub fn carry_on(
     ensures { RanOn deck.now pending parked terms bars.now budget (slices answers.old store.old scratch.old) (result_of result) (slices answers.new store.new scratch.new) }
 {
     let mut table = [0; 4096];
-    let opened = Opened::new(deck, &mut table)?;
-    sizes(store.len(), scratch.len())?;
     let counts = OpenCounts {
         pending,
         parked,
         terms,
     };
-    let (held, end) = open_goals(&opened, counts, store)?;
+    let open = carried(deck, counts, store, scratch.len(), &mut table)?;
     let mut index = Index::blank();
-    index.fill(&opened);
-    let clauses = Clauses::new(opened, &index);
-    rights::check_goals(&clauses, &store[..end], bars)?;
+    index.fill(&open.deck);
+    let clauses = Clauses::new(open.deck, &index);
+    rights::check_goals(&clauses, &store[..open.end], bars)?;
+    let start = resume(open.held, open.end, budget, store);
+    Ok(from_goals(&clauses, start, answers, store, scratch))
+}
+
+// The goals as a run holds them, to start from.
+pub fn resume(held: usize, end: usize, budget: u32, store: &mut [u16]) -> Start
+    requires { (held ≤ end) × (end ≤ length store.old) }
+    ensures { Resumed store.old held end budget store.new result }
+{
     top_level::resume(store, held, end);
     let parked = end - held;
     let parts = Parts { parked, held };
-    let start = Start { parts, budget };
-    Ok(from_goals(&clauses, start, answers, store, scratch))
+    Start { parts, budget }
 }

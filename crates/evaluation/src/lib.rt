@@ -17,6 +17,7 @@ use resolvents::workspace::Workspace;
 use top_level::{Parts, Start};
 
 pub mod carry;
+pub mod press;
 
 // Refusals 1 to 7 of the deck and the query, then 8 and 9 of the sizes of the store and the scratch; or the deck.
 fn sized<'a>(

@@ -10,10 +10,13 @@ ghost use Rattle.leads_c.specs.TextCalls.{ReadCalled, WriteCalled};
 ghost use Rattle.leads_c.specs.DrillCalls.{DrillCalled};
 ghost use Rattle.leads_c.specs.LevelCalls.{LevelsCalled, circular_number};
 ghost use Rattle.leads_c.specs.MeanCalls.{MeanCalled, mean_of};
+ghost use Rattle.report.specs.Reports.{advance_of};
+ghost use Rattle.leads_c.specs.PressCalls.{PressCalled, outcome_number, record_of};
 
 use deck::Refusal;
+use evaluation::press::{Display, press_display};
 use reading::ReadError;
-use report::Report;
+use report::{Advance, Report};
 
 #[unsafe(no_mangle)]
 pub extern "C" fn leads_open(deck: &[u16]) -> u32
@@ -108,6 +111,66 @@ fn told(
             0
         }
         Err(why) => u32::from(why),
+    }
+}
+
+// The record of a display is five pointers here, since an exported call takes no struct.
+#[unsafe(no_mangle)]
+pub extern "C" fn leads_press(
+    deck: &[u16],
+    terms: u64,
+    bars: &[u16],
+    budget: u32,
+    answers: &mut [u16],
+    store: &mut [u16],
+    scratch: &mut [u16],
+    outcome: &mut u32,
+    steps: &mut u64,
+    cost: &mut u64,
+    answer_count: &mut u64,
+    pending: &mut u64,
+    parked: &mut u64,
+) -> u32
+    ensures { PressCalled deck.now terms bars.now budget (slices answers.old store.old scratch.old) (record_of steps.old cost.old answer_count.old pending.old parked.old) outcome.old result (slices answers.new store.new scratch.new) (record_of steps.new cost.new answer_count.new pending.new parked.new) outcome.new }
+{
+    let mut display = Display {
+        steps: *steps,
+        cost: *cost,
+        answers: *answer_count,
+        pending: *pending,
+        parked: *parked,
+    };
+    let pressed = press_display(
+        deck,
+        terms,
+        bars,
+        budget,
+        &mut display,
+        answers,
+        store,
+        scratch,
+    );
+    *steps = display.steps;
+    *cost = display.cost;
+    *answer_count = display.answers;
+    *pending = display.pending;
+    *parked = display.parked;
+    match pressed {
+        Ok(advance) => {
+            *outcome = number_of(advance);
+            0
+        }
+        Err(why) => u32::from(why),
+    }
+}
+
+// 4 for a step that was taken, or the stop's number.
+fn number_of(advance: Advance) -> u32
+    ensures { result ≡ outcome_number (advance_of advance) }
+{
+    match advance {
+        Advance::Stepped => 4,
+        Advance::Prevented(stop) => u32::from(stop),
     }
 }
 

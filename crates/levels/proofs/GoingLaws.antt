@@ -11,13 +11,13 @@ use Rattle.rules.specs.Refusals.{accepted}
 use Rattle.rules.specs.Decks.{open_deck}
 use Rattle.rules.specs.Evaluation as rules
 use Rattle.rules.specs.Evaluation.{Level, with_pending, with_parked, deeper, finished, stopped, ended, verdict_of, reply_of, evaluate_level}
-use Rattle.rules.proofs.LevelLaws.{level-empty, level-spent, level-runs}
+use Rattle.rules.proofs.LevelLaws.{level-one_step, level-empty, level-spent, level-runs}
 use Rattle.rules.proofs.EndLaws.{Says, runs-says}
 use Rattle.report.specs.Reports.{stop_of}
 use Rattle.report.specs.declared.Stop.{Stop}
 use Rattle.report.specs.declared.Stop.TheVariants.{Finished, Budget, Answers, Store}
 use Rattle.goals.specs.Store.{Holding, SomeFirst, mark_of}
-use Rattle.levels.specs.Levels.{account_of, paid_one, Later, Stands, Turned, verdict_for, finished_by, Replied}
+use Rattle.levels.specs.Levels.{account_of, paid_one, Later, Stands, Onward, Turned, verdict_for, finished_by, Replied}
 use Rattle.std.specs.Prelude.{Result, Ok, Err}
 use Rattle.goals.specs.declared.Mark as declared
 use Rattle.levels.specs.declared.Account.{Account}
@@ -114,6 +114,15 @@ module _ {d : Deck} {below room : ℕ} {gs : List Goal} {a₀ : Account} {store 
         → Stands (deeper outer) (level_of r.pending r.aside) (first.first ∷ first.rest) (length store) store_size
     stands store_size outer f = record { pending = first.same; room = omega (arith, r.size) }
 
+    -- The evaluation goes on from the changed level.
+    onward : {change : Level → Level} {b : rules.Account} → Onward d.clauses below (length store) (first.first ∷ first.rest) (account_of a) change b
+        → (answer_room store_size outer : ℕ) → outer + room ≡ store_size
+        → evaluate_level d.clauses answer_room store_size below (deeper outer) (level_of r.pending r.aside) (account_of a)
+        ≡ evaluate_level d.clauses answer_room store_size below (deeper outer) (change (level_of r.pending r.aside)) b
+    onward o answer_room store_size outer f =
+        level-one_step d.clauses answer_room store_size below (deeper outer) (level_of r.pending r.aside) (account_of a)
+        ∙ o answer_room store_size (deeper outer) (evaluate_level d.clauses answer_room store_size below (deeper outer)) (level_of r.pending r.aside) (stands store_size outer f)
+
     -- It had no literals.
     pub goes-succeeds : (store' : List ℕ) → 0 < a.left → Took store' (Ok Empty) → Replied d below room gs a₀ (Ok (record { verdict = Succeeds; account = paid_one a }))
     unfolding reply_of verdict_of
@@ -139,7 +148,8 @@ module _ {d : Deck} {below room : ℕ} {gs : List Goal} {a₀ : Account} {store 
           later = then-later a₀ a halt.account r.later u.0;
           decides = λ answer_room store_size outer f.
               let l = level_of r.pending r.aside in
-              let e = u.2 answer_room store_size (deeper outer) l (stands store_size outer f) in
+              let e = level-one_step d.clauses answer_room store_size below (deeper outer) l (account_of a)
+              ∙ u.2 answer_room store_size (deeper outer) (evaluate_level d.clauses answer_room store_size below (deeper outer)) l (stands store_size outer f) in
               let s = runs-says (level-runs d.clauses answer_room store_size below (deeper outer) l (account_of a) (ended (stopped stop) l b) e) in
               r.same answer_room store_size outer f ∙ ap reply_of e
               ∙ ap (λ x. rules.reply x b) (cut-flag d.clauses halt.stop outer b.left first.first first.rest l first.same s);
@@ -161,7 +171,7 @@ module _ {d : Deck} {below room : ℕ} {gs : List Goal} {a₀ : Account} {store 
           later = then-later a₀ a b r.later u.1;
           same = λ answer_room store_size outer f.
               r.same answer_room store_size outer f
-              ∙ ap reply_of (u.3 answer_room store_size (deeper outer) (level_of r.pending r.aside) (stands store_size outer f));
+              ∙ ap reply_of (onward u.3 answer_room store_size outer f);
         }
 
     -- It goes on with other goals.
@@ -178,7 +188,7 @@ module _ {d : Deck} {below room : ℕ} {gs : List Goal} {a₀ : Account} {store 
           later = then-later a₀ a b r.later u.1;
           same = λ answer_room store_size outer f.
               r.same answer_room store_size outer f
-              ∙ ap reply_of (u.2.2 answer_room store_size (deeper outer) (level_of r.pending r.aside) (stands store_size outer f));
+              ∙ ap reply_of (onward u.2.2 answer_room store_size outer f);
         }
 
     -- The parked goal's words are among those held; each turn costs something.

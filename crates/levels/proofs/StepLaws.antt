@@ -9,10 +9,11 @@ use Rattle.rules.specs.Terms.{Terms}
 use Rattle.rules.specs.Syntax.{Literal, Clause, Goal}
 use Rattle.rules.specs.Goals.{Mark, floundered, oversized, deep, undecided, marked, goal_words, words_of}
 use Rattle.rules.specs.Resolution.{Selection, nothing, positive, negative, select, resolvents, any_oversized, selected_cost, cost_of}
-use Rattle.rules.specs.Evaluation.{Stop, budget, store, Level, start_level, with_pending, with_parked, Place, zeroth, deeper, held, Act, no_literals, park, derive, decide, derive_act, decide_act, selected_act, literals_act, act_of, question, Next, halt, step, ask, answer_step, act_step, unless_over, check_store, Account, pay, succeeded, ended, Verdict, succeeds, fails, unsettled, interrupted, reply, close, decide_by, evaluate_level, next_from, next_of}
+use Rattle.rules.specs.Evaluation.{Stop, budget, store, Level, start_level, with_pending, with_parked, Place, zeroth, deeper, held, Act, no_literals, park, derive, decide, derive_act, decide_act, selected_act, literals_act, act_of, question, Next, halt, step, ask, answer_step, act_step, unless_over, check_store, Account, pay, succeeded, Ended, ended, Verdict, succeeds, fails, unsettled, interrupted, reply, close, decide_by, evaluate_level, next_from, next_of}
+use Rattle.rules.specs.Press.{one_step}
 use Rattle.rules.proofs.GoalLaws.{marked_words-append}
 use Rattle.rules.proofs.NextLaws.{first-cost}
-use Rattle.rules.proofs.LevelLaws.{level-halts, level-steps, level-asks, level-succeeds, level-unpaid}
+use Rattle.rules.proofs.LevelLaws.{level-succeeds, step-halts, step-moves, step-asks, step-unpaid}
 use Rattle.goals.specs.Store.{atom_goal}
 use Rattle.levels.specs.Levels.{outside, Stands, Onward, Halts, Decides}
 
@@ -130,52 +131,51 @@ module _ (clauses : List Clause) (below room : ℕ) (g : Goal) (gs : List Goal) 
 
   pub parks : (m : Mark) → act_of clauses below g ≡ park m → goal_words g + words_of gs ≤ room → Onward clauses below room (g ∷ gs) a (with_parked m g gs) b
   unfolding check_store act_step
-  parks m e f answer_room store_size at l s =
-      level-steps clauses answer_room store_size below at l a (with_parked m g gs l)
+  parks m e f answer_room store_size at again l s =
+      step-moves clauses answer_room store_size below at again l a (with_parked m g gs l)
       (next-is answer_room store_size at l s.pending (park m) e
       ∙ within store_size (held at (with_parked m g gs l)) (step (with_parked m g gs l)) (omega (arith, held-parked at l m g gs, s.room)))
-      ∙ ap (evaluate_level clauses answer_room store_size below at (with_parked m g gs l)) (paid l s.pending)
+      ∙ ap (again (with_parked m g gs l)) (paid l s.pending)
 
   module _ (ds : List Goal) (e : act_of clauses below g ≡ derive ds) where
     pub replaces : words_of (ds ++ gs) ≤ room → Onward clauses below room (g ∷ gs) a (with_pending (ds ++ gs)) b
     unfolding check_store act_step
-    replaces f answer_room store_size at l s =
-        level-steps clauses answer_room store_size below at l a (with_pending (ds ++ gs) l)
+    replaces f answer_room store_size at again l s =
+        step-moves clauses answer_room store_size below at again l a (with_pending (ds ++ gs) l)
         (next-is answer_room store_size at l s.pending (derive ds) e
         ∙ within store_size (held at (with_pending (ds ++ gs) l)) (step (with_pending (ds ++ gs) l)) (omega (arith, held-replaced at l (ds ++ gs), s.room)))
-        ∙ ap (evaluate_level clauses answer_room store_size below at (with_pending (ds ++ gs) l)) (paid l s.pending)
+        ∙ ap (again (with_pending (ds ++ gs) l)) (paid l s.pending)
 
     pub overfills : room < words_of (ds ++ gs) → Halts clauses below room (g ∷ gs) a store a
     unfolding check_store act_step
-    overfills f answer_room store_size at l s =
-        level-halts clauses answer_room store_size below at l a store
+    overfills f answer_room store_size at again l s =
+        step-halts clauses answer_room store_size below at again l a store
         (next-is answer_room store_size at l s.pending (derive ds) e
         ∙ over store_size (held at (with_pending (ds ++ gs) l)) (step (with_pending (ds ++ gs) l)) (omega (arith, held-replaced at l (ds ++ gs), s.room)))
 
 -- The step's cost is not left.
 pub unpaid : (clauses : List Clause) (below room : ℕ) (g : Goal) (gs : List Goal) (a : Account) → a.left < cost_of clauses g → Halts clauses below room (g ∷ gs) a budget a
-unpaid clauses below room g gs a c answer_room store_size at l s = level-unpaid clauses answer_room store_size below at l a g gs s.pending c
+unpaid clauses below room g gs a c answer_room store_size at again l s = step-unpaid clauses answer_room store_size below at again l a g gs s.pending c
 
 -- A step that asks.
 module _ (clauses : List Clause) (below room : ℕ) (g : Goal) (gs : List Goal) (a b : Account) (pays : Pays clauses g a b)
     (p : ℕ) (ts : Terms) (others : List Literal) (e : act_of clauses (suc below) g ≡ decide p ts others) where
   pub crowds : room < goal_words g + words_of gs + goal_words (atom_goal p ts) → Halts clauses (suc below) room (g ∷ gs) a store a
   unfolding check_store act_step question
-  crowds f answer_room store_size at l s =
-      level-halts clauses answer_room store_size (suc below) at l a store
+  crowds f answer_room store_size at again l s =
+      step-halts clauses answer_room store_size (suc below) at again l a store
       (next-is clauses (suc below) room g gs a b pays answer_room store_size at l s.pending (decide p ts others) e
       ∙ over store_size (held at l + goal_words (atom_goal p ts)) (ask (question at l g gs p ts others))
       (omega (arith, held-outside at l (g ∷ gs) s.pending, s.room)))
 
   module _ (fits : goal_words g + words_of gs + goal_words (atom_goal p ts) ≤ room) (v : Verdict) (after : Account)
       (says : Decides clauses below (room - (goal_words g + words_of gs)) (atom_goal p ts ∷ []) b v after) where
-    closes : (answer_room store_size : ℕ) (at : Place) (l : Level) → Stands at l (g ∷ gs) room store_size
-        → evaluate_level clauses answer_room store_size (suc below) at l a
-        ≡ close (evaluate_level clauses answer_room store_size (suc below) at) l (question at l g gs p ts others) (reply v after)
+    closes : (answer_room store_size : ℕ) (at : Place) (again : Level → Account → Ended) (l : Level) → Stands at l (g ∷ gs) room store_size
+        → one_step clauses answer_room store_size (suc below) at again l a ≡ close again l (question at l g gs p ts others) (reply v after)
     unfolding check_store act_step question decide_by start_level
-    closes answer_room store_size at l s =
+    closes answer_room store_size at again l s =
         let h = held-outside at l (g ∷ gs) s.pending in
-        level-asks clauses answer_room store_size (suc below) at l a (question at l g gs p ts others)
+        step-asks clauses answer_room store_size (suc below) at again l a (question at l g gs p ts others)
         (next-is clauses (suc below) room g gs a b pays answer_room store_size at l s.pending (decide p ts others) e
         ∙ within store_size (held at l + goal_words (atom_goal p ts)) (ask (question at l g gs p ts others)) (omega (arith, s.room)))
         ∙ rw (paid clauses (suc below) room g gs a b pays l s.pending, says answer_room store_size (held at l) (omega (arith, s.room)))
@@ -187,16 +187,16 @@ module _ (clauses : List Clause) (below room : ℕ) (g : Goal) (gs : List Goal) 
 
     pub proves : Says succeeds → Onward clauses (suc below) room (g ∷ gs) a (with_pending gs) after
     unfolding close question
-    proves d answer_room store_size at l s = closes fits succeeds after d answer_room store_size at l s
+    proves d answer_room store_size at again l s = closes fits succeeds after d answer_room store_size at again l s
 
     pub disproves : Says fails → Onward clauses (suc below) room (g ∷ gs) a (with_pending (record { answers = g.answers; literals = others } ∷ gs)) after
     unfolding close question
-    disproves d answer_room store_size at l s = closes fits fails after d answer_room store_size at l s
+    disproves d answer_room store_size at again l s = closes fits fails after d answer_room store_size at again l s
 
     pub unsettles : Says unsettled → Onward clauses (suc below) room (g ∷ gs) a (with_parked undecided g gs) after
     unfolding close question
-    unsettles d answer_room store_size at l s = closes fits unsettled after d answer_room store_size at l s
+    unsettles d answer_room store_size at again l s = closes fits unsettled after d answer_room store_size at again l s
 
     pub interrupts : (s : Stop) → Says (interrupted s) → Halts clauses (suc below) room (g ∷ gs) a s after
     unfolding close
-    interrupts t d answer_room store_size at l s = closes fits (interrupted t) after d answer_room store_size at l s
+    interrupts t d answer_room store_size at again l s = closes fits (interrupted t) after d answer_room store_size at again l s

@@ -9,6 +9,7 @@ use Rattle.rules.specs.Goals.{goal_cells, goal_words, marked_words}
 use Rattle.rules.specs.Resolution.{negative, select}
 use Rattle.rules.specs.WellFormed.{WfLiteral}
 use Rattle.rules.specs.Evaluation as rules
+use Rattle.rules.specs.Press.{one_step}
 use Rattle.report.specs.Reports.{stop_of}
 use Rattle.report.specs.declared.Stop.{Stop}
 use Rattle.resolvents.specs.Selecting.{Spans}
@@ -47,17 +48,17 @@ pub record Stands (at : rules.Place) (l : rules.Level) (gs : List Goal) (words s
   pub pending : l.pending ≡ gs
   pub room : outside at l + words ≡ store_size
 
--- Whatever the level, its place and the sizes: the evaluation goes on as from the changed level.
+-- Whatever the level, its place and the sizes, and whatever takes over: it takes over from the changed level, one step on.
 abbrev pub Onward : List Clause → ℕ → ℕ → List Goal → rules.Account → (rules.Level → rules.Level) → rules.Account → Type 0
 Onward clauses below room gs a change b =
-    (answer_room store_size : ℕ) (at : rules.Place) (l : rules.Level) → Stands at l gs room store_size
-    → rules.evaluate_level clauses answer_room store_size below at l a ≡ rules.evaluate_level clauses answer_room store_size below at (change l) b
+    (answer_room store_size : ℕ) (at : rules.Place) (again : rules.Level → rules.Account → rules.Ended) (l : rules.Level) → Stands at l gs room store_size
+    → one_step clauses answer_room store_size below at again l a ≡ again (change l) b
 
--- Whatever they are: the evaluation stops with the level as it stands.
+-- Whatever they are: the step is not taken, or is cut short, and the level stops as it stands.
 abbrev pub Halts : List Clause → ℕ → ℕ → List Goal → rules.Account → rules.Stop → rules.Account → Type 0
 Halts clauses below room gs a stop b =
-    (answer_room store_size : ℕ) (at : rules.Place) (l : rules.Level) → Stands at l gs room store_size
-    → rules.evaluate_level clauses answer_room store_size below at l a ≡ rules.ended (rules.stopped stop) l b
+    (answer_room store_size : ℕ) (at : rules.Place) (again : rules.Level → rules.Account → rules.Ended) (l : rules.Level) → Stands at l gs room store_size
+    → one_step clauses answer_room store_size below at again l a ≡ rules.ended (rules.stopped stop) l b
 
 -- What a step on g, with gs after it, came to. The first `held` words of the store are as they were unless it goes on with other goals.
 abbrev pub Turned : Deck → ℕ → List ℕ → ℕ → Account → Goal → List Goal → List ℕ → Result Turn Halt → Type 0

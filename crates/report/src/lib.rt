@@ -1,4 +1,4 @@
-// What an accepted run returns.
+// What an accepted run and an accepted press return.
 #![tactic(auto)]
 
 // Why a run stops.
@@ -14,6 +14,24 @@ pub enum Stop {
 #[derive(Clone, Copy, Debug, PartialEq, Eq)]
 pub struct Report {
     pub stop: Stop,
+    pub steps: u32,
+    pub cost: u32,
+    pub answers: u64,
+    pub pending: u32,
+    pub parked: u32,
+}
+
+// What a press comes to: a step was taken, or the stop that prevented it.
+#[derive(Clone, Copy, Debug, PartialEq, Eq)]
+pub enum Advance {
+    Stepped,
+    Prevented(Stop),
+}
+
+// What a press came to, its steps over all levels and their cost, and the numbers of answers found and of pending and parked goals after it.
+#[derive(Clone, Copy, Debug, PartialEq, Eq)]
+pub struct Pressed {
+    pub advance: Advance,
     pub steps: u32,
     pub cost: u32,
     pub answers: u64,

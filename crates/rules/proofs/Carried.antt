@@ -95,17 +95,22 @@ all_pass : (deck_words : List ℕ) (pending parked terms : ℕ) (store_words : L
 unfolding carry check_tight and_then obtain require
 all_pass deck_words pending parked terms store_words scratch_size deck goals o s g t = rw (o, s, g, t)
 
+-- The goals that an outcome leaves are read from the start of any store that begins with their words.
+pub goals-open : (terms : ℕ) (deck : Deck) (goals : OpenGoals) → All (Fits deck.symbols terms) goals.pending → All (ParkedFits deck.symbols terms) goals.parked → (ws : List ℕ)
+    → take (length (open_words goals)) ws ≡ open_words goals → read_open deck.symbols (length goals.pending) (length goals.parked) terms ws ≡ some goals
+goals-open terms deck goals p q ws begins =
+    let n : ℕ = length (open_words goals) in
+    let whole : open_words goals ++ drop n ws ≡ ws = ap (λ xs. xs ++ drop n ws) (sym begins) ∙ take-append-drop n ws in
+    subst (λ xs. read_open deck.symbols (length goals.pending) (length goals.parked) terms xs ≡ some goals) whole
+    (read-open deck.symbols terms goals.pending goals.parked (drop n ws) p q)
+
 -- So a store is let through that begins with goals as they must be.
 pub left-accepted : (deck_words : List ℕ) (terms : ℕ) (deck : Deck) → open_deck deck_words ≡ accepted deck → tight_clauses deck.clauses ≡ true → (goals : OpenGoals)
     → All (Fits deck.symbols terms) goals.pending → All (ParkedFits deck.symbols terms) goals.parked → (store_words : List ℕ) (scratch_size : ℕ)
     → take (length (open_words goals)) store_words ≡ open_words goals → check_sizes (length store_words) scratch_size ≡ accepted tt
     → carry deck_words (length goals.pending) (length goals.parked) terms store_words scratch_size ≡ accepted (record { deck = deck; goals = goals })
 left-accepted deck_words terms deck opens tight goals p q ws scratch_size begins sizes =
-    let n : ℕ = length (open_words goals) in
-    let whole : open_words goals ++ drop n ws ≡ ws = ap (λ xs. xs ++ drop n ws) (sym begins) ∙ take-append-drop n ws in
-    all_pass deck_words (length goals.pending) (length goals.parked) terms ws scratch_size deck goals opens sizes
-    (subst (λ xs. read_open deck.symbols (length goals.pending) (length goals.parked) terms xs ≡ some goals) whole
-    (read-open deck.symbols terms goals.pending goals.parked (drop n ws) p q)) tight
+    all_pass deck_words (length goals.pending) (length goals.parked) terms ws scratch_size deck goals opens sizes (goals-open terms deck goals p q ws begins) tight
 
 left-carries : (deck_words : List ℕ) (terms : ℕ) (exit entry : Slices) (deck : Deck) → open_deck deck_words ≡ accepted deck → tight_clauses deck.clauses ≡ true → (o : Outcome)
     → Filled o entry exit → All (Fits deck.symbols terms) o.pending → All (ParkedFits deck.symbols terms) o.parked → CarriesOn deck_words terms (report o) exit
@@ -115,18 +120,18 @@ left-carries deck_words terms exit entry deck opens tight o left p q =
     record { deck = deck; goals = goals; left = left.store; carries = left-accepted deck_words terms deck opens tight goals p q }
 
 -- A statement about the goals before and after every evaluation.
-abbrev Always : (Deck → List Marked → List Marked → Type 1) → Type 1
+abbrev pub Always : (Deck → List Marked → List Marked → Type 1) → Type 1
 Always Statement =
     (deck : Deck) (answer_room store_size : ℕ) (gs : List Goal) (ms : List Marked) (total : ℕ)
     → Statement deck (unmarked gs ++ ms) (remaining (evaluate deck answer_room store_size gs ms total))
 
-covered-always : Always CoveredFrom
+pub covered-always : Always CoveredFrom
 covered-always deck answer_room store_size gs ms total I sat choice = evaluate-covers deck answer_room store_size gs ms total I sat choice
 
-valued-always : ExcludedMiddle → Always ValuedFrom
+pub valued-always : ExcludedMiddle → Always ValuedFrom
 valued-always em deck answer_room store_size gs ms total I sat choice = evaluate-values deck answer_room store_size gs ms total I sat choice em
 
-known-always : Always KnownFrom
+pub known-always : Always KnownFrom
 known-always deck answer_room store_size gs ms total I sat choice = evaluate-stays deck answer_room store_size gs ms total I sat choice
 
 -- Of an accepted outcome and what it leaves.
@@ -159,13 +164,17 @@ module _ (deck_words : List ℕ) (pending parked terms budget : ℕ) (entry exit
             (always deck (length entry.answers) (length entry.store) gs ms budget);
       }
 
+  fits-of : All (Fits deck.symbols terms) o.pending × All (ParkedFits deck.symbols terms) o.parked
+  fits-of = subst (λ (x : Outcome). All (Fits deck.symbols terms) x.pending × All (ParkedFits deck.symbols terms) x.parked) (sym a.evaluates)
+      (left-fit deck (opened-written deck_words deck a.opens).1 terms a.goals.pending a.goals.parked before-reads.pending before-reads.parked
+      (length entry.answers) (length entry.store) budget)
+
+  pub left-opens : read_open deck.symbols (length o.pending) (length o.parked) terms exit.store ≡ some (record { pending = o.pending; parked = o.parked })
+  unfolding store_start
+  left-opens = goals-open terms deck (record { pending = o.pending; parked = o.parked }) fits-of.0 fits-of.1 exit.store left.store
+
   pub carries-of : CarriesOn deck_words terms (report o) exit
-  carries-of =
-      let fit = left-fit deck (opened-written deck_words deck a.opens).1 terms a.goals.pending a.goals.parked before-reads.pending before-reads.parked
-      (length entry.answers) (length entry.store) budget in
-      left-carries deck_words terms exit entry deck a.opens a.tight_deck o left
-      (subst (λ (x : Outcome). All (Fits deck.symbols terms) x.pending) (sym a.evaluates) fit.0)
-      (subst (λ (x : Outcome). All (ParkedFits deck.symbols terms) x.parked) (sym a.evaluates) fit.1)
+  carries-of = left-carries deck_words terms exit entry deck a.opens a.tight_deck o left fits-of.0 fits-of.1
 
 -- A RUN THAT CARRIES ON.
 module _ (deck_words : List ℕ) (pending parked terms : ℕ) (bars : List ℕ) (budget : ℕ) (entry exit : Slices) (r : Report)

@@ -1,7 +1,7 @@
 -- Closed sites on words (document 02, U9): a member's calls over two decks side by side, with slices of the same sizes. The words after the goals in
 -- a store are free, so the two stores need only begin with the same open goals.
 use Prim.Native.Nat.{ℕ}
-use mathlib.Core.Path.{◌≡◌, refl, sym, ◌∙◌, subst}
+use mathlib.Core.Path.{◌≡◌, refl, sym, ◌∙◌, ap, subst}
 use mathlib.Core.Bool.{true}
 use mathlib.Core.Option.{some}
 use mathlib.Core.List.{List, [], ◌∷◌, ◌++◌}
@@ -17,10 +17,16 @@ use Rattle.rules.specs.Loose.{tight_clauses}
 use Rattle.rules.specs.Rights.{literals_of, check_rights, SameClauses}
 use Rattle.rules.specs.Evaluation.{Outcome, evaluate}
 use Rattle.rules.specs.Run.{Report, report, returned, Slices, Filled, Leaves, run_on, carry_from, Gives, Ran, RanOn}
+use Rattle.rules.specs.Press.{Advance, Pressed, press, counted, counts, left_by, PressLeaves, Display, displayed, display_after, advanced, press_with, press_from, PressedWith}
+use Rattle.rules.proofs.LevelSound.{level}
 use Rattle.rules.proofs.StoredLaws.{Fits, ParkedFits, open-reads}
 use Rattle.rules.proofs.Carried.{first_fits, same_read}
 use Rattle.rules.proofs.ClosedSites.{first-starts, run-same, carry_same, same-later}
-use Rattle.rules.proofs.MemberRuns.{left-reads, fresh-accepted, carried-accepted}
+use Rattle.rules.proofs.SamePresses.{press_once_same}
+use Rattle.rules.proofs.MemberRuns.{left-reads, fresh-accepted, carried-accepted, pressed-accepted}
+use Rattle.rules.proofs.PressList.{cost_taken}
+use Rattle.rules.proofs.Presses.{press-leaves}
+use Rattle.rules.proofs.PressWords.{filled-same}
 
 pub record SameSizes (entry other : Slices) : Type 0 where
   pub answers : length other.answers ≡ length entry.answers
@@ -122,3 +128,49 @@ module _ (deck_words other_words bars : List ℕ) (d e : Deck) (opens : open_dec
                   (left-alike terms g.pending g.parked reads.pending reads.parked a.3 (alike.1 g a.2)
                   (length entry.answers) (length entry.store) budget entry exit other left o a.4 f f'),
             )
+
+  -- A PRESS, with the same record.
+  module _ (terms budget : ℕ) (shown : Display) (entry other : Slices) (sizes : SameSizes entry other) (alike : Alike shown.pending shown.parked terms entry.store other.store) where
+    pressed-equal : press_with other_words terms bars budget shown other ≡ press_with deck_words terms bars budget shown entry
+    unfolding press_with press_from
+    pressed-equal = rw (sizes.answers, sizes.scratch) (sym (press_once_same deck_words other_words bars shown.pending shown.parked terms entry.store other.store (length entry.scratch) d e
+        opens other_opens tight other_tight symbols sizes.store alike.0 alike.1 budget (length entry.answers)))
+
+    -- Both say the same, show the same, and leave what one press, or one refusal, says.
+    pub pressed-same : (exit left : Slices) (r s : Checked Advance) (after after' : Display) → PressedWith deck_words terms bars budget entry shown r exit after
+        → PressedWith other_words terms bars budget other shown s left after'
+        → (s ≡ r) × (after' ≡ after) × (c : Checked Pressed) × PressLeaves c entry exit × PressLeaves c other left
+    pressed-same exit left r s after after' ran ran' = (
+      ran'.returns ∙ ap (λ c. advanced (counts c)) pressed-equal ∙ sym ran.returns,
+      ran'.display ∙ ap (λ c. display_after shown (counts c)) pressed-equal ∙ sym ran.display,
+      press_with deck_words terms bars budget shown entry,
+      ran.leaves,
+      subst (λ c. PressLeaves c other left) pressed-equal ran'.leaves,
+    )
+
+    -- And stores from which the next calls go on alike.
+    pub pressed-alike : (exit left : Slices) (r : Advance) (s : Checked Advance) (after after' : Display) → PressedWith deck_words terms bars budget entry shown (accepted r) exit after
+        → PressedWith other_words terms bars budget other shown s left after' → Alike after.pending after.parked terms exit.store left.store
+    unfolding press_with counts counted advanced display_after displayed PressLeaves
+    pressed-alike exit left r s after after' ran ran' =
+        go (press_with deck_words terms bars budget shown entry) refl ran.returns ran.display ran.leaves (subst (λ c. PressLeaves c other left) pressed-equal ran'.leaves)
+      where
+        go : (c : Checked Pressed) → press_with deck_words terms bars budget shown entry ≡ c → accepted r ≡ advanced (counts c) → after ≡ display_after shown (counts c)
+            → PressLeaves c entry exit → PressLeaves c other left → Alike after.pending after.parked terms exit.store left.store
+        go (refused n) eq back shows f f' = absurd (let z : ◌≡◌ {A = ℕ} 0 1 = cc in omega arith)
+        go (accepted p) eq back shows f f' =
+            let a = pressed-accepted deck_words bars d opens shown.pending shown.parked terms budget entry p eq in
+            let g : OpenGoals = a.0 in
+            let reads = open-reads d.symbols shown.pending shown.parked terms entry.store g a.2 in
+            let spent : ℕ = cost_taken (press d (length entry.answers) (length entry.store) g.pending g.parked budget) in
+            let o : Outcome = evaluate d (length entry.answers) (length entry.store) g.pending g.parked spent in
+            let run = press-leaves d (record { budget = budget; answer_room = length entry.answers; store_size = length entry.store }) (level g.pending g.parked []) in
+            let answers : o.answers ≡ p.answers = run.answers ∙ ap (λ (x : Pressed). x.answers) a.4 in
+            let pending : o.pending ≡ p.pending = run.pending ∙ ap (λ (x : Pressed). x.pending) a.4 in
+            let parked : o.parked ≡ p.parked = run.parked ∙ ap (λ (x : Pressed). x.parked) a.4 in
+            let shown-pending : length o.pending ≡ after.pending = ap length pending ∙ sym (ap (λ (x : Display). x.pending) shows) in
+            let shown-parked : length o.parked ≡ after.parked = ap length parked ∙ sym (ap (λ (x : Display). x.parked) shows) in
+            subst (λ (k : ℕ). Alike after.pending k terms exit.store left.store) shown-parked
+            (subst (λ (n : ℕ). Alike n (length o.parked) terms exit.store left.store) shown-pending
+            (left-alike terms g.pending g.parked reads.pending reads.parked a.3 (alike.1 g a.2) (length entry.answers) (length entry.store) spent entry exit other left o refl
+            (filled-same o (left_by p) entry exit answers pending parked f.filled) (filled-same o (left_by p) other left answers pending parked f'.filled)))

@@ -136,7 +136,7 @@ unfolding run_from and_then
 zeros-run d gs ms budget answer_room store_size = rw (zeros-clear d (unmarked gs ++ ms)) refl
 
 -- Checks go on alike after what is let through.
-then_same : {A B : Type 0} (c : Checked A) {f g : A → Checked B} → ((a : A) → c ≡ accepted a → f a ≡ g a) → and_then c f ≡ and_then c g
+pub then_same : {A B : Type 0} (c : Checked A) {f g : A → Checked B} → ((a : A) → c ≡ accepted a → f a ≡ g a) → and_then c f ≡ and_then c g
 unfolding and_then
 then_same (refused n) h = refl
 then_same (accepted a) h = h a refl
@@ -147,7 +147,7 @@ module _ (d e : Deck) (symbols : d.symbols ≡ e.symbols) (bars : List ℕ) (gs 
   starts = literals_of (unmarked gs ++ ms)
 
   module _ (h : SameClauses d.clauses e.clauses bars starts) where
-    rights-same : check_rights d bars (unmarked gs ++ ms) ≡ check_rights e bars (unmarked gs ++ ms)
+    pub rights-same : check_rights d bars (unmarked gs ++ ms) ≡ check_rights e bars (unmarked gs ++ ms)
     unfolding check_rights
     rights-same = rw (symbols, both _ _ (same-barred d.clauses e.clauses bars starts h) (same-barred e.clauses d.clauses bars starts (swapped _ _ bars starts h)))
 
@@ -196,7 +196,7 @@ module _ (deck_words other_words bars : List ℕ) (pending parked terms : ℕ) (
     (long : length other_store ≡ length store_words) (reads : read_open d.symbols pending parked terms other_store ≡ read_open d.symbols pending parked terms store_words)
     (h : (g : OpenGoals) → read_open d.symbols pending parked terms store_words ≡ some g → SameClauses d.clauses e.clauses bars (literals_of (unmarked g.pending ++ g.parked))) where
   -- What goes on alike from the same open goals goes on alike from the store.
-  carried_same : {A : Type 0} (after : Carried → Checked A)
+  pub carried_same : {A : Type 0} (after : Carried → Checked A)
       → ((g : OpenGoals) → read_open d.symbols pending parked terms store_words ≡ some g → after (record { deck = d; goals = g }) ≡ after (record { deck = e; goals = g }))
       → and_then (carry deck_words pending parked terms store_words scratch_size) after ≡ and_then (carry other_words pending parked terms other_store scratch_size) after
   unfolding carry and_then obtain check_tight require

@@ -14,7 +14,8 @@ use Rattle.rules.proofs.GoalLaws.{words_of-append, marked_words-append}
 use Rattle.rules.proofs.SelectLaws.{Selected, select-selected}
 use Rattle.rules.proofs.FormedLaws.{without-shorter}
 use Rattle.rules.proofs.NextLaws.{bare, asks, Ahead, emptied, unpaid, unlisted, unstored, lists, parks, replaces, inquires}
-use Rattle.rules.proofs.LevelLaws.{Unfinished, Runs, halts, steps, wins, proves, disproves, unsettles, interrupts, Spends, spends-same, runs-spend, runs-left, next-ahead, decides, runs}
+use Rattle.rules.specs.Press.{decides}
+use Rattle.rules.proofs.LevelLaws.{Unfinished, Runs, halts, steps, wins, proves, disproves, unsettles, interrupts, Spends, spends-same, runs-spend, runs-left, next-ahead, runs}
 
 -- 1. What the stops say.
 
@@ -105,7 +106,7 @@ module _ {clauses : List Clause} {answer_room store_size : ℕ} where
   bare_step (parks p c a h) b = b
   bare_step (replaces p c a h) b = b
 
-  answers-ask : (P : List Goal → Type 0) {below left : ℕ} {at : Place} {l : Level} {q : Question}
+  pub answers-ask : (P : List Goal → Type 0) {below left : ℕ} {at : Place} {l : Level} {q : Question}
       → Ahead clauses answer_room store_size below at l left (ask q) → P l.answers
       → P q.on_success.answers × P q.on_failure.answers × P q.on_unsettled.answers
   unfolding question with_parked with_pending

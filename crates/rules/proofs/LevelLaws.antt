@@ -7,8 +7,9 @@ use native.Mathlib.Omega.{arith}
 use borrow.Author.Tests.{lt-leb}
 use Rattle.rules.specs.Syntax.{Clause, Goal}
 use Rattle.rules.specs.Goals.{Marked}
-use Rattle.rules.specs.Evaluation.{Stop, finished, budget, answers, store, Level, start_level, Place, deeper, Question, Next, halt, step, success, ask, Account, first_cost, pay, Ending, succeeded, stopped, Ended, ended, interrupted, Reply, reply, verdict_of, reply_of, close, proceed, decide_by, unasked, next_from, next_of, turn, evaluate_level}
+use Rattle.rules.specs.Evaluation.{Stop, finished, budget, answers, store, Level, start_level, Place, deeper, Question, Next, halt, step, success, ask, Account, first_cost, pay, Ending, succeeded, stopped, Ended, ended, interrupted, reply, verdict_of, reply_of, close, proceed, decide_by, next_from, next_of, turn, evaluate_level}
 use Rattle.rules.specs.Resolution.{cost_of}
+use Rattle.rules.specs.Press.{decides, one_step}
 use Rattle.rules.proofs.NextLaws.{asks, cost-positive, first-cost, Ahead, lists, parks, replaces, succeeds, inquires, ahead}
 
 -- The stops that stop the levels above too.
@@ -118,11 +119,6 @@ interrupted-verdict finished ks h = absurd h
 interrupted-verdict budget ks h = refl
 interrupted-verdict answers ks h = refl
 interrupted-verdict store ks h = refl
-
--- The decider of a level with `below` levels below it.
-abbrev pub decides : List Clause → ℕ → ℕ → ℕ → Question → Account → Reply
-decides clauses answer_room store_size zero q a = unasked q a
-decides clauses answer_room store_size (suc below) q a = decide_by (evaluate_level clauses answer_room store_size below) q a
 
 module _ (clauses : List Clause) (answer_room store_size : ℕ) where
   -- All levels run, with n levels below them.
@@ -271,6 +267,32 @@ module _ (clauses : List Clause) (answer_room store_size : ℕ) where
     unfolding next_of next_from
     level-empty e = level-halts finished (rw e)
 
+  pub level-one_step : (below : ℕ) (at : Place) (l : Level) (a : Account)
+      → evaluate_level clauses answer_room store_size below at l a ≡ one_step clauses answer_room store_size below at (evaluate_level clauses answer_room store_size below at) l a
+  unfolding one_step
+  level-one_step = level-unfolds
+
+  -- ONE STEP, by what is next and whatever takes over from it.
+  module _ (below : ℕ) (at : Place) (again : Level → Account → Ended) (l : Level) (a : Account) where
+    pub step-halts : (s : Stop) → next_of clauses answer_room store_size below at l a.left ≡ halt s
+        → one_step clauses answer_room store_size below at again l a ≡ ended (stopped s) l a
+    unfolding one_step proceed
+    step-halts s e = rw e
+
+    pub step-moves : (l' : Level) → next_of clauses answer_room store_size below at l a.left ≡ step l'
+        → one_step clauses answer_room store_size below at again l a ≡ again l' (pay clauses l a)
+    unfolding one_step proceed
+    step-moves l' e = rw e
+
+    pub step-asks : (q : Question) → next_of clauses answer_room store_size below at l a.left ≡ ask q
+        → one_step clauses answer_room store_size below at again l a ≡ close again l q (decides clauses answer_room store_size below q (pay clauses l a))
+    unfolding one_step proceed
+    step-asks q e = rw e
+
+    pub step-empty : l.pending ≡ [] → one_step clauses answer_room store_size below at again l a ≡ ended (stopped finished) l a
+    unfolding next_of next_from
+    step-empty e = step-halts finished (rw e)
+
   -- The step's whole cost is not left; with nothing left at all, no step can be paid.
   next-unpaid : (below : ℕ) (at : Place) (l : Level) (left : ℕ) (g : Goal) (gs : List Goal) → l.pending ≡ g ∷ gs → left < cost_of clauses g
       → next_of clauses answer_room store_size below at l left ≡ halt budget
@@ -284,3 +306,11 @@ module _ (clauses : List Clause) (answer_room store_size : ℕ) where
   pub level-spent : (below : ℕ) (at : Place) (l : Level) (a : Account) (g : Goal) (gs : List Goal) → l.pending ≡ g ∷ gs → a.left ≡ 0
       → evaluate_level clauses answer_room store_size below at l a ≡ ended (stopped budget) l a
   level-spent below at l a g gs e z = level-unpaid below at l a g gs e (omega (arith, cost-positive clauses g))
+
+  pub step-unpaid : (below : ℕ) (at : Place) (again : Level → Account → Ended) (l : Level) (a : Account) (g : Goal) (gs : List Goal) → l.pending ≡ g ∷ gs → a.left < cost_of clauses g
+      → one_step clauses answer_room store_size below at again l a ≡ ended (stopped budget) l a
+  step-unpaid below at again l a g gs e c = step-halts below at again l a budget (next-unpaid below at l a.left g gs e c)
+
+  pub step-spent : (below : ℕ) (at : Place) (again : Level → Account → Ended) (l : Level) (a : Account) (g : Goal) (gs : List Goal) → l.pending ≡ g ∷ gs → a.left ≡ 0
+      → one_step clauses answer_room store_size below at again l a ≡ ended (stopped budget) l a
+  step-spent below at again l a g gs e z = step-unpaid below at again l a g gs e (omega (arith, cost-positive clauses g))

@@ -48,6 +48,14 @@ pub mod Carried
 pub mod MeanLaws
 pub mod ColumnLaws
 pub mod ColumnRuns
+-- Presses.
+pub mod PressList
+pub mod PressTable
+pub mod PressLaws
+pub mod Limits
+pub mod Presses
+pub mod PressWords
+pub mod PressedQuery
 -- What a run passes on every level.
 pub mod PassLaws
 -- Loose variables.
@@ -63,6 +71,7 @@ pub mod RankRuns
 pub mod Reach
 pub mod SameDecks
 pub mod ClosedSites
+pub mod SamePresses
 pub mod MemberRuns
 pub mod ClosedRuns
 pub mod RightsTable

@@ -1,12 +1,12 @@
--- A member's runs on words (document 02, U9): what an accepted one has checked and evaluated; and from what it leaves the member's next run is let
--- carry on.
+-- A member's runs and presses on words (document 02, U9 and U14): what an accepted one has checked and evaluated; and from what it leaves the
+-- member's next run or press is accepted.
 use Prim.Native.Nat.{ℕ}
-use mathlib.Core.Path.{◌≡◌, refl, sym, ◌∙◌, ap, subst}
+use mathlib.Core.Path.{◌≡◌, refl, sym, subst}
 use mathlib.Core.Bool.{true}
 use mathlib.Core.Option.{some}
 use mathlib.Core.List.{List, [], ◌∷◌, ◌++◌}
 use native.Mathlib.Omega.{arith}
-use lib.ListN.{length, take, drop, take-append-drop}
+use lib.ListN.{length, take}
 use Rattle.rules.specs.Syntax.{Literal, Deck, Goal}
 use Rattle.rules.specs.Refusals.{Checked, refused, accepted, and_then}
 use Rattle.rules.specs.Decks.{open_deck, read_query}
@@ -17,15 +17,12 @@ use Rattle.rules.specs.Loose.{tight_clauses, check_tight_query}
 use Rattle.rules.specs.Rights.{check_rights}
 use Rattle.rules.specs.Evaluation.{Outcome, evaluate}
 use Rattle.rules.specs.Run.{run_from, check_sizes, run, carry, carry_on, Report, report, returned, store_start, Slices, Filled, Leaves, run_on, carry_from, Ran, RanOn}
+use Rattle.rules.specs.Press.{Pressed, press, press_once, press_from}
 use Rattle.rules.proofs.DeckLaws.{opened-written}
 use Rattle.rules.proofs.Demand3.{passed, run-accepted}
-use Rattle.rules.proofs.StoredLaws.{Fits, ParkedFits, open-reads, read-open, left-fit}
-use Rattle.rules.proofs.Carried.{carry-parts, carry-accepted, first_fits, open_words, left-accepted}
+use Rattle.rules.proofs.StoredLaws.{Fits, ParkedFits, open-reads, left-fit}
+use Rattle.rules.proofs.Carried.{carry-parts, carry-accepted, first_fits, open_words, goals-open, left-accepted}
 use Rattle.rules.proofs.ClosedSites.{rights-kept}
-
--- The store after an accepted run begins with the goals that it leaves.
-begins : (o : Outcome) (entry exit : Slices) → Filled o entry exit → store_start o ++ drop (length (store_start o)) exit.store ≡ exit.store
-begins o entry exit f = ap (λ ws. ws ++ drop (length (store_start o)) exit.store) (sym f.store) ∙ take-append-drop (length (store_start o)) exit.store
 
 module _ (deck_words bars : List ℕ) (d : Deck) (opens : open_deck deck_words ≡ accepted d) where
   -- The goals that an evaluation leaves are read from any store that begins with them.
@@ -34,16 +31,9 @@ module _ (deck_words bars : List ℕ) (d : Deck) (opens : open_deck deck_words �
       → read_open d.symbols (length o.pending) (length o.parked) terms exit.store ≡ some (record { pending = o.pending; parked = o.parked })
   unfolding store_start
   left-reads terms gs ms p q answer_room store_size budget entry exit o ev filled =
-      subst (λ (x : Outcome). Filled x entry exit
-      → read_open d.symbols (length x.pending) (length x.parked) terms exit.store ≡ some (record { pending = x.pending; parked = x.parked })) (sym ev)
-      (λ f. subst (λ ws. read_open d.symbols (length after.pending) (length after.parked) terms ws ≡ some (record { pending = after.pending; parked = after.parked }))
-      (begins after entry exit f) (read-open d.symbols terms after.pending after.parked _ fit.0 fit.1)) filled
-    where
-      after : Outcome
-      after = evaluate d answer_room store_size gs ms budget
-
-      fit : All (Fits d.symbols terms) after.pending × All (ParkedFits d.symbols terms) after.parked
-      fit = left-fit d (opened-written deck_words d opens).1 terms gs ms p q answer_room store_size budget
+      let fit = subst (λ (x : Outcome). All (Fits d.symbols terms) x.pending × All (ParkedFits d.symbols terms) x.parked) (sym ev)
+      (left-fit d (opened-written deck_words d opens).1 terms gs ms p q answer_room store_size budget) in
+      goals-open terms d (record { pending = o.pending; parked = o.parked }) fit.0 fit.1 exit.store filled.store
 
   -- What a fresh run accepts and evaluates.
   pub fresh-accepted : (query_words : List ℕ) (budget : ℕ) (entry : Slices) (o : Outcome) → run_on deck_words query_words bars budget entry ≡ accepted o
@@ -76,7 +66,26 @@ module _ (deck_words bars : List ℕ) (d : Deck) (opens : open_deck deck_words �
         subst (λ (x : Deck). o ≡ evaluate x (length entry.answers) (length entry.store) k.goals.pending k.goals.parked budget) same ev,
       )
 
--- The member's next run, with the counts that were returned, over any store of an allowed size that begins with the words left: it is accepted.
+  -- And a press.
+  pub pressed-accepted : (pending parked terms budget : ℕ) (entry : Slices) (p : Pressed) → press_from deck_words pending parked terms bars budget entry ≡ accepted p
+      → (g : OpenGoals) × (u : Unit {0}) × (read_open d.symbols pending parked terms entry.store ≡ some g) × (check_rights d bars (unmarked g.pending ++ g.parked) ≡ accepted u)
+      × (press d (length entry.answers) (length entry.store) g.pending g.parked budget ≡ p)
+  unfolding press_from press_once
+  pressed-accepted pending parked terms budget entry p eq =
+      let c = passed (carry deck_words pending parked terms entry.store (length entry.scratch)) _ eq in
+      let k = c.0 in
+      let parts = carry-parts deck_words pending parked terms entry.store (length entry.scratch) k c.1 in
+      let same : k.deck ≡ d = let z = parts.0 in cc in
+      let r = passed (check_rights k.deck bars (unmarked k.goals.pending ++ k.goals.parked)) _ c.2 in
+      let ev : press k.deck (length entry.answers) (length entry.store) k.goals.pending k.goals.parked budget ≡ p = let z = r.2 in cc in (
+        k.goals,
+        r.0,
+        subst (λ (x : Deck). read_open x.symbols pending parked terms entry.store ≡ some k.goals) same parts.1,
+        subst (λ (x : Deck). check_rights x bars (unmarked k.goals.pending ++ k.goals.parked) ≡ accepted r.0) same r.1,
+        subst (λ (x : Deck). press x (length entry.answers) (length entry.store) k.goals.pending k.goals.parked budget ≡ p) same ev,
+      )
+
+-- The member's next run or press, with the counts that were returned, over any store of an allowed size that begins with the words left: it is accepted.
 pub record LetOn (deck_words bars : List ℕ) (terms : ℕ) (r : Report) (exit : Slices) : Type 0 where
   pub deck : Deck
   pub goals : OpenGoals
@@ -85,12 +94,16 @@ pub record LetOn (deck_words bars : List ℕ) (terms : ℕ) (r : Report) (exit :
       → check_sizes (length next.store) (length next.scratch) ≡ accepted tt
       → carry_from deck_words r.pending r.parked terms bars budget next
       ≡ accepted (evaluate deck (length next.answers) (length next.store) goals.pending goals.parked budget)
+  pub presses_on : (budget : ℕ) (next : Slices) → take (length (open_words goals)) next.store ≡ open_words goals
+      → check_sizes (length next.store) (length next.scratch) ≡ accepted tt
+      → press_from deck_words r.pending r.parked terms bars budget next
+      ≡ accepted (press deck (length next.answers) (length next.store) goals.pending goals.parked budget)
 
 module _ (deck_words bars : List ℕ) (d : Deck) (opens : open_deck deck_words ≡ accepted d) (tight : tight_clauses d.clauses ≡ true) where
-  let-on : (terms : ℕ) (gs : List Goal) (ms : List Marked) → All (Fits d.symbols terms) gs → All (ParkedFits d.symbols terms) ms
+  pub let-on : (terms : ℕ) (gs : List Goal) (ms : List Marked) → All (Fits d.symbols terms) gs → All (ParkedFits d.symbols terms) ms
       → {u : Unit {0}} → check_rights d bars (unmarked gs ++ ms) ≡ accepted u → (answer_room store_size budget : ℕ) (entry exit : Slices)
       → Filled (evaluate d answer_room store_size gs ms budget) entry exit → LetOn deck_words bars terms (report (evaluate d answer_room store_size gs ms budget)) exit
-  unfolding report store_start carry_from carry_on run_from and_then
+  unfolding report store_start carry_from carry_on run_from press_from press_once and_then
   let-on terms gs ms p q right answer_room store_size budget entry exit f =
       let o : Outcome = evaluate d answer_room store_size gs ms budget in
       let goals : OpenGoals = record { pending = o.pending; parked = o.parked } in
@@ -101,6 +114,9 @@ module _ (deck_words bars : List ℕ) (d : Deck) (opens : open_deck deck_words �
         goals = goals;
         left = f.store;
         goes_on = λ later next begun sizes.
+            let through = left-accepted deck_words terms d opens tight goals fit.0 fit.1 next.store (length next.scratch) begun sizes in
+            rw (through, kept) refl;
+        presses_on = λ later next begun sizes.
             let through = left-accepted deck_words terms d opens tight goals fit.0 fit.1 next.store (length next.scratch) begun sizes in
             rw (through, kept) refl;
       }

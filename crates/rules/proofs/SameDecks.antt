@@ -189,7 +189,7 @@ module _ (P : ℕ → Type 0) (cs ds : List Clause) (agree : (p : ℕ) → P p �
       level-same below at l a h = sym (runs-level ds answer_room store_size (runs_same (runs cs answer_room store_size below at l a) h))
 
 -- THE EVALUATION. The starting points are the literals of the open goals.
-reaches-spreads : (clauses : List Clause) (starts : List Literal) → Spreads (λ q. Unit {0}) clauses (Reaches clauses starts)
+pub reaches-spreads : (clauses : List Clause) (starts : List Literal) → Spreads (λ q. Unit {0}) clauses (Reaches clauses starts)
 reaches-spreads clauses starts c i a r p m = onward r tt i m
 
 -- The open goals name only what they reach.
@@ -206,7 +206,7 @@ unmarked-split Q (g ∷ gs) ms h = let r = unmarked-split Q gs ms h.1 in ((h.0, 
 abbrev pub ReachedFrom : List Clause → List Goal → List Marked → ℕ → Type 0
 ReachedFrom clauses gs ms = Reaches clauses (literals_of (unmarked gs ++ ms))
 
-start-names : (clauses : List Clause) (gs : List Goal) (ms : List Marked)
+pub start-names : (clauses : List Clause) (gs : List Goal) (ms : List Marked)
     → All (λ g. NamesOnly (ReachedFrom clauses gs ms) g.literals) gs × All (λ m. NamesOnly (ReachedFrom clauses gs ms) m.goal.literals) ms
 start-names clauses gs ms =
     unmarked-split (λ g. NamesOnly (ReachedFrom clauses gs ms) g.literals) gs ms

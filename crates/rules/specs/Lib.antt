@@ -16,6 +16,7 @@ pub mod Stored
 pub mod Rights
 pub mod Run
 pub mod Column
+pub mod Press
 pub mod Meaning
 pub mod ThreeValues
 pub mod Demand

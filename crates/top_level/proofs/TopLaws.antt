@@ -12,15 +12,18 @@ use Rattle.rules.specs.Refusals.{accepted}
 use Rattle.rules.specs.Decks.{open_deck}
 use Rattle.rules.specs.Goals.{Marked, unmarked, goal_words, write_goals, words_of, marked_words}
 use Rattle.rules.specs.Evaluation as rules
-use Rattle.rules.specs.Evaluation.{Level, zeroth, held, with_pending, with_parked, with_answer, no_literals, step, answer_step, act_step, check_store, next_of, ended, stopped, evaluate_level}
+use Rattle.rules.specs.Evaluation.{Level, zeroth, held, with_pending, with_parked, with_answer, no_literals, step, answer_step, act_step, check_store, next_of, Ended, ended, stopped, evaluate_level}
 use Rattle.rules.proofs.GoalLaws.{goals-length, goals-append, unmarked-append, unmarked-words, words_of-append}
-use Rattle.rules.proofs.LevelLaws.{level-empty, level-spent, level-halts, level-steps}
+use Rattle.rules.specs.Press.{one_step, press_level}
+use Rattle.rules.proofs.LevelLaws.{level-one_step, step-halts, step-moves, step-empty, step-spent}
+use Rattle.report.specs.Reports.{ending_of}
 use Rattle.report.specs.declared.Stop.TheVariants.{Finished, Budget, Answers}
 use Rattle.goals.specs.Store.{Holding, SomeFirst, mark_of}
 use Rattle.levels.specs.Levels.{account_of, paid_one, Stands, Turned}
-use Rattle.top_level.specs.Top.{Stored, Ordered, Topped, Started, started, opening, begun, Lists, Goes, Stops, Bare, Waits, Stepped, Follows}
+use Rattle.top_level.specs.Top.{Stored, Totalled, Topped, Started, opening, Again, evaluates, step_then, Lists, Goes, Rests, Stops, Bare, Waits, Stepped, Follows, begun, advance_by}
 use Rattle.goals.specs.declared.Mark as declared
-use Rattle.top_level.specs.declared.Counts.{Counts}
+use Rattle.top_level.specs.declared.Start.{Start}
+use Rattle.top_level.specs.declared.Totals.{Totals}
 use Rattle.top_level.specs.declared.Progress.{Progress}
 use Rattle.top_level.specs.declared.End.{End}
 use Rattle.levels.specs.declared.Account.{Account}
@@ -34,7 +37,7 @@ use Rattle.levels.proofs.TurnLaws.{bare-paid}
 use Rattle.top_level.proofs.StoredLaws.{part-all, put_all, parked-words, stored-inside, stored-stands, put_back, kept_back, first_fits, first_word, first-copied, rest-stored}
 
 -- A GOAL WITHOUT LITERALS at level 0: it is listed, or there is no room for its words.
-module _ (clauses : List Clause) (answer_room store_size below : ℕ) (g : Goal) (gs : List Goal) (a : Account) (some : 0 < a.left) (l : Level)
+module _ (clauses : List Clause) (answer_room store_size below : ℕ) (again : Again) (g : Goal) (gs : List Goal) (a : Account) (some : 0 < a.left) (l : Level)
     (p : l.pending ≡ g ∷ gs) (e : g.literals ≡ []) where
   pays : Pays clauses g (account_of a) (account_of (paid_one a))
   pays = bare-paid clauses g a some e
@@ -44,36 +47,66 @@ module _ (clauses : List Clause) (answer_room store_size below : ℕ) (g : Goal)
   next = next-is clauses below 0 g gs (account_of a) (account_of (paid_one a)) pays answer_room store_size zeroth l p no_literals (bare clauses below g e)
 
   pub lists : words_of l.answers + goal_words g ≤ answer_room → words_of gs + marked_words l.parked ≤ store_size
-      → evaluate_level clauses answer_room store_size below zeroth l (account_of a) ≡ evaluate_level clauses answer_room store_size below zeroth (with_answer g gs l) (account_of (paid_one a))
+      → one_step clauses answer_room store_size below zeroth again l (account_of a) ≡ again (with_answer g gs l) (account_of (paid_one a))
   unfolding answer_step check_store held with_answer
   lists f h =
-      level-steps clauses answer_room store_size below zeroth l (account_of a) (with_answer g gs l)
+      step-moves clauses answer_room store_size below zeroth again l (account_of a) (with_answer g gs l)
       (next ∙ rw (le-leb (words_of l.answers + goal_words g) answer_room f, answer_step) (within store_size (words_of gs + marked_words l.parked) (step (with_answer g gs l)) h))
-      ∙ ap (evaluate_level clauses answer_room store_size below zeroth (with_answer g gs l)) (paid clauses below 0 g gs (account_of a) (account_of (paid_one a)) pays l p)
+      ∙ ap (again (with_answer g gs l)) (paid clauses below 0 g gs (account_of a) (account_of (paid_one a)) pays l p)
 
   pub unlisted : answer_room < words_of l.answers + goal_words g
-      → evaluate_level clauses answer_room store_size below zeroth l (account_of a) ≡ ended (stopped rules.answers) l (account_of a)
+      → one_step clauses answer_room store_size below zeroth again l (account_of a) ≡ ended (stopped rules.answers) l (account_of a)
   unfolding answer_step check_store
   unlisted f =
-      level-halts clauses answer_room store_size below zeroth l (account_of a) rules.answers
+      step-halts clauses answer_room store_size below zeroth again l (account_of a) rules.answers
       (next ∙ rw (lt-leb (words_of l.answers + goal_words g) answer_room f, answer_step))
 
-pub goes_first : {d : Deck} {answers store : List ℕ} {gs : List Goal} {ms : List Marked} {budget parked held : ℕ} → Stored d.symbols store parked held (opening gs ms)
-    → Goes (started d answers store gs ms budget) answers store (record { parts = record { parked = parked; held = held }; account = record { left = budget; steps = 0 }; filled = 0; listed = 0 })
+-- Level 0 at its start, and what is to come of it.
+abbrev pub starts : Deck → List ℕ → List ℕ → ℕ → Ended → Started
+starts d answers store budget total = record { deck = d; answers = answers; store = store; budget = budget; ends = total }
+
+pub goes_first : {d : Deck} {answers store : List ℕ} {gs : List Goal} {ms : List Marked} {total : Ended} (start : Start) (again : Again)
+    → total ≡ again (opening gs ms) (rules.opening start.budget) → Stored d.symbols store start.parts.parked start.parts.held (opening gs ms)
+    → Goes (starts d answers store start.budget total) again answers store (begun start)
 unfolding write_goals
-goes_first {d} {answers} {store} {gs} {ms} {budget} h =
-    let s = started d answers store gs ms budget in
-    record {
-      level = begun s;
-      same = refl;
-      stored = h;
-      lists = record { listed = refl; words = refl; counted = refl };
-      size = refl;
-      room = refl;
-      inside = omega arith;
-      paid = omega arith;
-      few = omega arith;
-    }
+goes_first {gs = gs} {ms} start again e h = record {
+  level = opening gs ms;
+  same = e;
+  stored = h;
+  lists = record { listed = refl; words = refl; counted = refl };
+  size = refl;
+  room = refl;
+  inside = omega arith;
+  paid = omega arith;
+  few = omega arith;
+}
+
+-- Level 0's run from given goals; and a press.
+abbrev pub run_from : Deck → List ℕ → List ℕ → List Goal → List Marked → ℕ → Started
+run_from d answers store gs ms budget = starts d answers store budget (evaluate_level d.clauses (length answers) (length store) 32 zeroth (opening gs ms) (rules.opening budget))
+
+abbrev pub press_from : Deck → List ℕ → List ℕ → List Goal → List Marked → ℕ → Started
+press_from d answers store gs ms budget = starts d answers store budget (press_level d.clauses (length answers) (length store) (opening gs ms) (rules.opening budget))
+
+-- A press takes its one step.
+pub goes-press : (d : Deck) (answers store : List ℕ) (gs : List Goal) (ms : List Marked) (start : Start) → Stored d.symbols store start.parts.parked start.parts.held (opening gs ms)
+    → let s = press_from d answers store gs ms start.budget in Goes s (step_then s (ended rules.succeeded)) answers store (begun start)
+unfolding press_level
+goes-press d answers store gs ms start h = goes_first start (step_then (press_from d answers store gs ms start.budget) (ended rules.succeeded)) refl h
+
+-- A run takes one step more.
+pub goes-one_step : {s : Started} {answers store : List ℕ} {p : Progress} → Goes s (evaluates s) answers store p → Goes s (step_then s (evaluates s)) answers store p
+goes-one_step {s} {p = p} r = record {
+  level = r.level;
+  same = r.same ∙ level-one_step s.deck.clauses (length s.answers) (length s.store) 32 zeroth r.level (account_of p.account);
+  stored = r.stored;
+  lists = r.lists;
+  size = r.size;
+  room = r.room;
+  inside = r.inside;
+  paid = r.paid;
+  few = r.few;
+}
 
 -- One more answer.
 answer-listed : {l : Level} {answers₀ answers' : List ℕ} {used count : ℕ} (g : Goal) (gs : List Goal) (answers'' : List ℕ) → Lists l answers₀ answers' used count
@@ -98,14 +131,14 @@ answer-listed {l} {answers₀} {answers'} {used} {count} g gs answers'' h f e =
       counted = omega (arith, h.counted, length-append l.answers (g ∷ []));
     }
 
-module _ {s : Started} {answers store : List ℕ} {p : Progress} (r : Goes s answers store p) where
+module _ {s : Started} (again : Again) {answers store : List ℕ} {p : Progress} (r : Goes s (step_then s again) answers store p) where
   -- NOTHING IS HELD
   pub stops-empty : p.parts.held ≤ 0 → Stops s answers store (record { stop = Finished; at = p })
   stops-empty z = record {
     level = r.level;
     same =
         r.same
-        ∙ level-empty s.deck.clauses (length s.answers) (length s.store) 32 zeroth r.level (account_of p.account) (none-held r.level.pending r.stored.pending z);
+        ∙ step-empty s.deck.clauses (length s.answers) (length s.store) 32 zeroth again r.level (account_of p.account) (none-held r.level.pending r.stored.pending z);
     stored = r.stored;
     lists = r.lists;
     size = r.size;
@@ -130,7 +163,7 @@ module _ {s : Started} {answers store : List ℕ} {p : Progress} (r : Goes s ans
           level = r.level;
           same =
               r.same
-              ∙ level-spent s.deck.clauses (length s.answers) (length s.store) 32 zeroth r.level (account_of p.account) first.first first.rest first.same z;
+              ∙ step-spent s.deck.clauses (length s.answers) (length s.store) 32 zeroth again r.level (account_of p.account) first.first first.rest first.same z;
           stored = r.stored;
           lists = r.lists;
           size = r.size;
@@ -160,7 +193,7 @@ module _ {s : Started} {answers store : List ℕ} {p : Progress} (r : Goes s ans
           (stored-stands r.stored (first.first ∷ first.rest) first.same)
 
       -- The first goals are as they were.
-      unchanged : take p.parts.held part ≡ take p.parts.held (drop p.parts.parked store) → Goes s answers stepped-store p
+      unchanged : take p.parts.held part ≡ take p.parts.held (drop p.parts.parked store) → Goes s (step_then s again) answers stepped-store p
       unchanged e = record {
         level = r.level;
         same = r.same;
@@ -174,7 +207,7 @@ module _ {s : Started} {answers store : List ℕ} {p : Progress} (r : Goes s ans
       }
 
       by_turn : (t : Result Turn Halt) → Turned s.deck 32 (drop p.parts.parked store) p.parts.held p.account first.first first.rest part t
-          → Stepped s answers stepped-store p t
+          → Stepped s again answers stepped-store p t
       unfolding with_pending unchanged
       by_turn (Ok Empty) u = record { goes = unchanged u.1; goal = first.first; others = first.rest; first = first.same; empty = u.0; pays = pays }
       by_turn (Ok (Park m k)) u = record {
@@ -184,13 +217,13 @@ module _ {s : Started} {answers store : List ℕ} {p : Progress} (r : Goes s ans
         first = first.same;
         less = u.0;
         later = u.1;
-        same = u.3 (length s.answers) (length s.store) zeroth r.level stands;
+        same = u.3 (length s.answers) (length s.store) zeroth again r.level stands;
       }
       by_turn (Ok (More h k)) u = (
         u.0,
         record {
           level = with_pending u.2.0 r.level;
-          same = r.same ∙ u.2.2 (length s.answers) (length s.store) zeroth r.level stands;
+          same = r.same ∙ u.2.2 (length s.answers) (length s.store) zeroth again r.level stands;
           stored = put_back r.stored part back h u.2.0 u.2.1;
           lists = record { listed = r.lists.listed; words = r.lists.words; counted = r.lists.counted };
           size = all-long;
@@ -202,7 +235,7 @@ module _ {s : Started} {answers store : List ℕ} {p : Progress} (r : Goes s ans
       )
       by_turn (Err halt) u = record {
         level = r.level;
-        same = r.same ∙ u.2 (length s.answers) (length s.store) zeroth r.level stands;
+        same = r.same ∙ u.2 (length s.answers) (length s.store) zeroth again r.level stands;
         stored = kept_back r.stored part back part-long u.1;
         lists = r.lists;
         size = all-long;
@@ -215,7 +248,7 @@ module _ {s : Started} {answers store : List ℕ} {p : Progress} (r : Goes s ans
           → ((d : Deck) (g : Goal) (gs : List Goal) → open_deck deck_words ≡ accepted d
           → Holding d.symbols (mid_of p.parts.parked (length store - p.parts.parked) store) p.parts.held (g ∷ gs)
           → Turned d 32 (mid_of p.parts.parked (length store - p.parts.parked) store) p.parts.held p.account g gs part t)
-          → Stepped s answers stepped-store p t
+          → Stepped s again answers stepped-store p t
       stepped t took =
           let e = part-all store p.parts.parked r.stored.inside in
           by_turn t ((rw e at took) s.deck first.first first.rest opens first-held)
@@ -225,7 +258,7 @@ some-held : {S : List Symbol} {store : List ℕ} {parked held' : ℕ} {l : Level
 some-held {g = g} {gs} h e = omega (arith, first_fits h g gs e, cells-length g)
 
 -- The first pending goal has no literals: its words go to the answer list, or there is no room for them.
-module _ {s : Started} {answers store : List ℕ} {p : Progress} (b : Bare s answers store p) where
+module _ {s : Started} {again : Again} {answers store : List ℕ} {p : Progress} (b : Bare s again answers store p) where
   pub bare-held : 0 < p.parts.held
   bare-held = some-held b.goes.stored b.first
 
@@ -239,7 +272,7 @@ module _ {s : Started} {answers store : List ℕ} {p : Progress} (b : Bare s ans
         level = r.level;
         same =
             r.same
-            ∙ unlisted s.deck.clauses (length s.answers) (length s.store) 32 b.goal b.others p.account b.pays r.level b.first
+            ∙ unlisted s.deck.clauses (length s.answers) (length s.store) 32 again b.goal b.others p.account b.pays r.level b.first
             b.empty (omega (arith, bare-size, r.lists.words, r.room, r.inside));
         stored = r.stored;
         lists = r.lists;
@@ -251,7 +284,7 @@ module _ {s : Started} {answers store : List ℕ} {p : Progress} (b : Bare s ans
   pub goes-listed : (answers' : List ℕ) → p.filled + get_or store (p.parts.parked + p.parts.held - 1) 0 ≤ length answers
       → answers' ≡ sets answers p.filled (take (get_or store (p.parts.parked + p.parts.held - 1) 0) (reverse (take (p.parts.parked + p.parts.held) store)))
       → let n = get_or store (p.parts.parked + p.parts.held - 1) 0 in
-      Goes s answers' store (record { parts = record { parked = p.parts.parked; held = p.parts.held - n }; account = paid_one p.account; filled = p.filled + n; listed = p.listed + 1 })
+      Goes s again answers' store (record { parts = record { parked = p.parts.parked; held = p.parts.held - n }; account = paid_one p.account; filled = p.filled + n; listed = p.listed + 1 })
   goes-listed answers' f q =
       let r = b.goes in
       let same-room : length answers' ≡ length answers = ap length q ∙ length-sets answers p.filled (take (get_or store (p.parts.parked + p.parts.held - 1) 0) (reverse (take (p.parts.parked + p.parts.held) store))) in
@@ -259,7 +292,7 @@ module _ {s : Started} {answers store : List ℕ} {p : Progress} (b : Bare s ans
         level = with_answer b.goal b.others r.level;
         same =
             r.same
-            ∙ lists s.deck.clauses (length s.answers) (length s.store) 32 b.goal b.others p.account b.pays r.level b.first b.empty
+            ∙ lists s.deck.clauses (length s.answers) (length s.store) 32 again b.goal b.others p.account b.pays r.level b.first b.empty
             (omega (arith, bare-size, r.lists.words, r.room)) (omega (arith, stored-inside r.stored, parked-words r.stored, first_fits r.stored b.goal b.others b.first, r.size));
         stored = rw bare-size (rest-stored r.stored b.goal b.others b.first);
         lists = rw bare-size (answer-listed b.goal b.others answers' r.lists (omega (arith, bare-size, r.room))
@@ -272,7 +305,7 @@ module _ {s : Started} {answers store : List ℕ} {p : Progress} (b : Bare s ans
       }
 
 -- The first pending goal is parked.
-module _ {s : Started} {answers store : List ℕ} {p : Progress} {m : declared.Mark} {k : Account} (w : Waits s answers store p m k) where
+module _ {s : Started} {again : Again} {answers store : List ℕ} {p : Progress} {m : declared.Mark} {k : Account} (w : Waits s again answers store p m k) where
   pub waits-held : 0 < p.parts.held
   waits-held = some-held w.goes.stored w.first
 
@@ -285,7 +318,7 @@ module _ {s : Started} {answers store : List ℕ} {p : Progress} {m : declared.M
   parks-within n store' z = (z s.deck.symbols w.goes.level w.goal w.others w.first w.goes.stored).1
 
   pub goes-parked : (n : ℕ) (store' : List ℕ) → Parks n store' → length store' ≡ length store
-      → Goes s answers store' (record { parts = record { parked = p.parts.parked + n; held = p.parts.held - n }; account = k; filled = p.filled; listed = p.listed })
+      → Goes s again answers store' (record { parts = record { parked = p.parts.parked + n; held = p.parts.held - n }; account = k; filled = p.filled; listed = p.listed })
   unfolding with_parked
   goes-parked n store' z e =
       let r = w.goes in
@@ -301,24 +334,24 @@ module _ {s : Started} {answers store : List ℕ} {p : Progress} {m : declared.M
         few = r.few;
       }
 
--- Of less than k left, and so of less than m.
-pub follows-within : (s : Started) (k m : ℕ) (answers store : List ℕ) (r : Result Progress End) → k ≤ m → Follows s k answers store r → Follows s m answers store r
-follows-within s k m answers store (Ok p) h u = (omega (arith, u.0), u.1)
-follows-within s k m answers store (Err e) h u = u
+-- The end, in numbers, with the goals put in order.
+pub topped : (s : Started) {ending : rules.Ending} {answers store : List ℕ} {p : Progress} (store' : List ℕ) (t : Totals) → Rests s ending answers store p
+    → ((S : List Symbol) (l : Level) → Stored S store p.parts.parked p.parts.held l → Totalled p s.budget l store' t) → Topped s.ends ending s.answers s.budget answers store' t
+topped s {p = p} store' t h o =
+    let k = o s.deck.symbols h.level h.stored in
+    record {
+      level = h.level;
+      account = account_of p.account;
+      ends = h.same;
+      steps = k.steps;
+      cost = k.cost;
+      listed = h.lists.listed ∙ ap (λ (n : ℕ). write_goals (unmarked h.level.answers) ++ drop n s.answers) h.lists.words;
+      answered = k.answers ∙ h.lists.counted;
+      ordered = k.ordered;
+    }
 
--- The end, with the goals put in order; its steps, and what is left.
-pub topped : (s : Started) {answers store : List ℕ} (e : End) (store' : List ℕ) (c : Counts) (budget steps left : ℕ) → s.budget ≡ budget
-    → steps ≡ e.at.account.steps → left ≡ e.at.account.left → Stops s answers store e
-    → ((l : Level) → Stored s.deck.symbols store e.at.parts.parked e.at.parts.held l → Ordered l store' c)
-    → Topped s.deck s.answers s.store s.goals s.parked s.budget answers store'
-    (record { stop = e.stop; steps = steps; cost = budget - left; answers = e.at.listed; pending = c.pending; parked = c.parked })
-topped s e store' c budget steps left b n k h o = record {
-  level = h.level;
-  account = account_of e.at.account;
-  ends = h.same;
-  steps = n;
-  cost = omega (arith, b, k);
-  listed = h.lists.listed ∙ ap (λ (n : ℕ). write_goals (unmarked h.level.answers) ++ drop n s.answers) h.lists.words;
-  answered = h.lists.counted;
-  ordered = o h.level h.stored;
-}
+-- A press goes on no further: it rests where its step has brought it, or stops.
+pub rests-advanced : (s : Started) (k : ℕ) {answers store : List ℕ} (taken : Result Progress End) → Follows s (ended rules.succeeded) k answers store taken
+    → Rests s (ending_of (advance_by taken).0) answers store (advance_by taken).1
+rests-advanced s k (Ok p) h = let r = h.1 in record { level = r.level; same = r.same; stored = r.stored; lists = r.lists; size = r.size; room = r.room; paid = omega (arith, r.paid) }
+rests-advanced s k (Err e) h = h

@@ -7,14 +7,15 @@ ghost use Rattle.rules.specs.Syntax.{Symbol, Literal, Goal};
 ghost use Rattle.rules.specs.Refusals.{accepted};
 ghost use Rattle.rules.specs.Decks.{open_deck};
 ghost use Rattle.rules.specs.Goals.{Marked, first_goal};
-ghost use Rattle.rules.specs.Evaluation.{Level};
+ghost use Rattle.rules.specs.Evaluation.{Level, stopped};
+ghost use Rattle.report.specs.Reports.{stop_of};
 ghost use Rattle.goals.specs.Store.{Holding};
-ghost use Rattle.top_level.specs.Top.{Stored, SomeStored, ParksFirst, Written, SomeWritten, Queries, SomeQuery, Ordered, Topped, Started, Goes, SomeGoes, Bare, SomeBare, Stepped, SomeStepped, Follows, Due, Stops, SomeStops, opening, SomeOpening, RunsStored, InOrder, end_of};
+ghost use Rattle.top_level.specs.Top.{Stored, SomeStored, ParksFirst, Written, SomeWritten, Queries, SomeQuery, Ordered, Totalled, Topped, of_report, Started, Again, step_then, Goes, SomeGoes, Bare, SomeBare, Stepped, SomeStepped, Follows, Due, Stops, SomeStops, opening, SomeOpening, RunsStored, PressesStored, InOrder, begun, end_of, advance_by};
 
 use clauses::Clauses;
 use goals::{MARK, Mark};
 use levels::{Account, Halt, Turn, take_step};
-use report::{Report, Stop};
+use report::{Advance, Pressed, Report, Stop};
 use resolvents::fresh::variables;
 use resolvents::workspace::Workspace;
 
@@ -53,6 +54,19 @@ pub struct Progress {
 }
 
 impl Progress {
+    // Where it starts: no step is taken, and nothing is listed.
+    fn first(start: Start) -> Progress
+        ensures { result ≡ begun start }
+    {
+        let Start { parts, budget } = start;
+        Progress {
+            parts,
+            account: Account::new(budget),
+            filled: 0,
+            listed: 0,
+        }
+    }
+
     // The end, where a step halts.
     fn halted(self, halt: Halt) -> End
         ensures { result ≡ end_of self halt }
@@ -70,6 +84,16 @@ impl Progress {
 pub struct End {
     pub stop: Stop,
     pub at: Progress,
+}
+
+// What the steps came to, in numbers.
+#[derive(Clone, Copy, Debug, PartialEq, Eq)]
+pub struct Totals {
+    pub steps: u32,
+    pub cost: u32,
+    pub answers: u64,
+    pub pending: u32,
+    pub parked: u32,
 }
 
 // Parks the first pending goal: it goes behind the parked ones. The result is its number of words, the last word held: a function for this one read
@@ -91,7 +115,7 @@ fn park(store: &mut [u16], parts: Parts, mark: Mark) -> usize
 // The first pending goal, which has no literals, goes to the answer list; or there is no room for it there.
 fn list(at: Progress, answers: &mut [u16], store: &[u16]) -> Result<Progress, End>
     requires { SomeBare answers.old store.now at }
-    ensures { (s : Started) → Bare s answers.old store.now at → Follows s at.account.left answers.new store.now result }
+    ensures { (s : Started) (again : Again) → Bare s again answers.old store.now at → Follows s again at.account.left answers.new store.now result }
 {
     let Parts { parked, held } = at.parts;
     let end = parked + held;
@@ -121,7 +145,7 @@ fn follow(
     store: &mut [u16],
 ) -> Result<Progress, End>
     requires { SomeStepped answers.old store.old at taken }
-    ensures { (s : Started) → Stepped s answers.old store.old at taken → Follows s at.account.left answers.new store.new result }
+    ensures { (s : Started) (again : Again) → Stepped s again answers.old store.old at taken → Follows s again at.account.left answers.new store.new result }
 {
     match taken.map_err(|halt| at.halted(halt))? {
         Turn::Empty => list(at, answers, store),
@@ -150,7 +174,7 @@ fn follow(
 
 // Level 0 is finished where nothing is pending, and stops where nothing is left of the budget.
 fn due(at: &Progress) -> Result<(), End>
-    ensures { (s : Started) (k : ℕ) (answers store : List ℕ) → Follows s k answers store (Ok at.now) → Due s k answers store at.now result }
+    ensures { (s : Started) (again : Again) (k : ℕ) (answers store : List ℕ) → Follows s (step_then s again) k answers store (Ok at.now) → Due s (step_then s again) k answers store at.now result }
 {
     if at.parts.held == 0 {
         let stop = Stop::Finished;
@@ -173,7 +197,7 @@ fn turn(
     work: &mut Workspace<'_>,
 ) -> Result<Progress, End>
     requires { SomeGoes clauses.now.deck.words.now answers.old store.old at }
-    ensures { (s : Started) → open_deck clauses.now.deck.words.now ≡ accepted s.deck → Goes s answers.old store.old at → Follows s at.account.left answers.new store.new result }
+    ensures { (s : Started) (again : Again) → open_deck clauses.now.deck.words.now ≡ accepted s.deck → Goes s (step_then s again) answers.old store.old at → Follows s again at.account.left answers.new store.new result }
 {
     due(&at)?;
     let account = at.account;
@@ -182,19 +206,17 @@ fn turn(
     follow(taken, at, answers, store)
 }
 
-// Puts the goals that are left in order, and reports.
-fn report(end: End, budget: u32, store: &mut [u16]) -> Report
-    requires stops { SomeStops store.old end }
-    requires within_budget { end.at.account.left ≤ budget }
+// Puts the goals that are left in order, and counts.
+fn order_and_count(at: Progress, budget: u32, store: &mut [u16]) -> Totals
+    requires stored { SomeStored store.old at.parts.parked at.parts.held }
+    requires within_budget { at.account.left ≤ budget }
     requires short_store { length store.old ≤ 65535 }
-    ensures { (s : Started) (answers : List ℕ) → s.budget ≡ budget → Stops s answers store.old end → Topped s.deck s.answers s.store s.goals s.parked s.budget answers store.new result }
+    ensures { (S : List Symbol) (l : Level) → Stored S store.old at.parts.parked at.parts.held l → Totalled at budget l store.new result }
 {
-    let End { stop, at } = end;
     let steps = at.account.steps();
     let left = at.account.left();
     let Counts { pending, parked } = order_goals(store, at.parts);
-    Report {
-        stop,
+    Totals {
         steps,
         cost: budget - left,
         answers: at.listed,
@@ -203,7 +225,32 @@ fn report(end: End, budget: u32, store: &mut [u16]) -> Report
     }
 }
 
-// Runs level 0 from the goals stored until it stops, and puts the goals that are left in order. That the store is short is a clause of three functions:
+// Puts the goals that are left in order, and reports.
+fn report(end: End, budget: u32, store: &mut [u16]) -> Report
+    requires stops { SomeStops store.old end }
+    requires within_budget { end.at.account.left ≤ budget }
+    requires short_store { length store.old ≤ 65535 }
+    ensures { (s : Started) (answers : List ℕ) → s.budget ≡ budget → Stops s answers store.old end → Topped s.ends (stopped (stop_of result.stop)) s.answers s.budget answers store.new (of_report result) }
+{
+    let End { stop, at } = end;
+    let Totals {
+        steps,
+        cost,
+        answers,
+        pending,
+        parked,
+    } = order_and_count(at, budget, store);
+    Report {
+        stop,
+        steps,
+        cost,
+        answers,
+        pending,
+        parked,
+    }
+}
+
+// Runs level 0 from the goals stored until it stops, and puts the goals that are left in order. That the store is short is a clause of five functions:
 // the store is the caller's slice, lent again in parts, so a type round it would be made anew at each.
 pub fn top(
     clauses: &Clauses<'_>,
@@ -216,13 +263,8 @@ pub fn top(
     requires short_store { length store.old ≤ 65535 }
     ensures { RunsStored clauses.now.deck.words.now answers.old store.old start.parts.parked start.parts.held start.budget answers.new store.new result }
 {
-    let Start { parts, budget } = start;
-    let mut at = Progress {
-        parts,
-        account: Account::new(budget),
-        filled: 0,
-        listed: 0,
-    };
+    let budget = start.budget;
+    let mut at = Progress::first(start);
     // No range to go over: a turn says where the run ends.
     loop {
         match turn(clauses, at, answers, store, work) {
@@ -233,6 +275,48 @@ pub fn top(
                 return report(end, budget, store);
             }
         }
+    }
+}
+
+// Whether the step was taken, and level 0 as it is then.
+fn advanced(taken: Result<Progress, End>) -> (Advance, Progress)
+    ensures { result ≡ advance_by taken }
+{
+    match taken {
+        Ok(at) => (Advance::Stepped, at),
+        Err(End { stop, at }) => (Advance::Prevented(stop), at),
+    }
+}
+
+// One step of level 0 from the goals stored, with all of its inner levels, and the goals that are left in order.
+pub fn press(
+    clauses: &Clauses<'_>,
+    start: Start,
+    answers: &mut [u16],
+    store: &mut [u16],
+    work: &mut Workspace<'_>,
+) -> Pressed
+    requires opening { SomeOpening clauses.now.deck.words.now store.old start.parts.parked start.parts.held }
+    requires short_store { length store.old ≤ 65535 }
+    ensures { PressesStored clauses.now.deck.words.now answers.old store.old start.parts.parked start.parts.held start.budget answers.new store.new result }
+{
+    let budget = start.budget;
+    let taken = turn(clauses, Progress::first(start), answers, store, work);
+    let (advance, at) = advanced(taken);
+    let Totals {
+        steps,
+        cost,
+        answers: listed,
+        pending,
+        parked,
+    } = order_and_count(at, budget, store);
+    Pressed {
+        advance,
+        steps,
+        cost,
+        answers: listed,
+        pending,
+        parked,
     }
 }
 

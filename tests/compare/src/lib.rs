@@ -3,6 +3,7 @@
 use second::carry::Given;
 use second::judge::{Engine, Lent, Report};
 use second::mean::{Column, Mean};
+use second::press::Record;
 
 #[cfg(feature = "stand-in")]
 mod stand_in;
@@ -60,6 +61,27 @@ mod c {
             answer_count: *mut u64,
             pending_after: *mut u32,
             parked_after: *mut u32,
+        ) -> u32;
+        #[allow(clippy::too_many_arguments)]
+        pub fn leads_press(
+            deck: *const u16,
+            deck_words: usize,
+            terms: u64,
+            bars: *const u16,
+            bar_words: usize,
+            budget: u32,
+            answers: *mut u16,
+            answer_words: usize,
+            store: *mut u16,
+            store_words: usize,
+            scratch: *mut u16,
+            scratch_words: usize,
+            outcome: *mut u32,
+            steps: *mut u64,
+            cost: *mut u64,
+            answer_count: *mut u64,
+            pending: *mut u64,
+            parked: *mut u64,
         ) -> u32;
         pub fn leads_read_text(
             text: *const u8,
@@ -174,6 +196,32 @@ pub fn carry_on(deck: &[u16], given: Given, bars: &[u16], budget: u32, lent: Len
     }
 }
 
+/// One step: 0, the outcome and the record after it, or the refusal's number, 1 to 5, 8, 9, 12, 13, 15 or 16, with nothing touched.
+pub fn press(deck: &[u16], terms: u64, bars: &[u16], budget: u32, lent: Lent<'_>, outcome: &mut u32, record: &mut Record) -> u32 {
+    unsafe {
+        c::leads_press(
+            deck.as_ptr(),
+            deck.len(),
+            terms,
+            bars.as_ptr(),
+            bars.len(),
+            budget,
+            lent.answers.as_mut_ptr(),
+            lent.answers.len(),
+            lent.store.as_mut_ptr(),
+            lent.store.len(),
+            lent.scratch.as_mut_ptr(),
+            lent.scratch.len(),
+            outcome,
+            &mut record.steps,
+            &mut record.cost,
+            &mut record.answers,
+            &mut record.pending,
+            &mut record.parked,
+        )
+    }
+}
+
 /// 0 and the number of words written, or the refusal's number, 10, 11 or 1 to 5; with 10 the place.
 pub fn read_text(text: &[u8], deck: &mut [u16], words: &mut usize, place: &mut usize) -> u32 {
     unsafe { c::leads_read_text(text.as_ptr(), text.len(), deck.as_mut_ptr(), deck.len(), words, place) }
@@ -230,6 +278,12 @@ impl Engine for Leads {
 impl second::carry::judge::Engine for Leads {
     fn carry_on(&self, deck: &[u16], given: Given, bars: &[u16], budget: u32, lent: Lent<'_>, report: &mut Report) -> u32 {
         carry_on(deck, given, bars, budget, lent, report)
+    }
+}
+
+impl second::press::judge::Engine for Leads {
+    fn press(&self, deck: &[u16], terms: u64, bars: &[u16], budget: u32, lent: Lent<'_>, outcome: &mut u32, record: &mut Record) -> u32 {
+        press(deck, terms, bars, budget, lent, outcome, record)
     }
 }
 

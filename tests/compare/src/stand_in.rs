@@ -13,6 +13,9 @@ use second::levels::slips::SLIPS as RANKING;
 use second::loose::slips as loose;
 use second::mean::slips::SLIPS as MEANS;
 use second::mean::{judge as means, Column, Mean};
+use second::press::judge::Engine as Presses;
+use second::press::slips::SLIPS as PRESSING;
+use second::press::Record;
 use second::rights::slips::SLIPS as RIGHTS;
 use second::text::judge::{Engine, Second};
 use second::text::slips::SLIPS;
@@ -55,6 +58,11 @@ static RUNS: LazyLock<&(dyn Runs + Sync)> = LazyLock::new(|| match loose::SLIPS.
     },
 });
 
+static PRESSES: LazyLock<&dyn Presses> = LazyLock::new(|| match PRESSING.iter().find(|slip| named(slip.name)) {
+    Some(slip) => slip,
+    None => &second::judge::Second,
+});
+
 static DRILLS: LazyLock<&dyn drills::Engine> = LazyLock::new(|| match DRILLING.iter().find(|slip| named(slip.name)) {
     Some(slip) => slip,
     None => match READING.iter().find(|slip| named(slip.name)) {
@@ -91,6 +99,8 @@ fn named(name: &str) -> bool {
         let reading = READING.iter().map(|slip| slip.name);
         let means = MEANS.iter().map(|slip| slip.name);
         let runs = runs.chain(paying).chain(drilling).chain(ranking).chain(rights).chain(reading).chain(means);
+        let pressing = PRESSING.iter().map(|slip| slip.name);
+        let runs = runs.chain(pressing);
         let mut all = texts.chain(slips::SLIPS.iter().map(|slip| slip.name)).chain(runs);
         assert!(all.any(|one| one == wanted), "no slip of this name");
         wanted == name
@@ -203,6 +213,50 @@ pub unsafe extern "C" fn leads_continue(
     let number = CONTINUES.carry_on(deck, given, bars, budget, lent, &mut report);
     (*stop, *steps, *cost, *answer_count) = (report.stop, report.steps, report.cost, report.answers);
     (*pending_after, *parked_after) = (report.pending, report.parked);
+    number
+}
+
+/// # Safety
+/// As in `include/leads.h`.
+#[no_mangle]
+#[allow(clippy::too_many_arguments)]
+pub unsafe extern "C" fn leads_press(
+    deck: *const u16,
+    deck_words: usize,
+    terms: u64,
+    bars: *const u16,
+    bar_words: usize,
+    budget: u32,
+    answers: *mut u16,
+    answer_words: usize,
+    store: *mut u16,
+    store_words: usize,
+    scratch: *mut u16,
+    scratch_words: usize,
+    outcome: *mut u32,
+    steps: *mut u64,
+    cost: *mut u64,
+    answer_count: *mut u64,
+    pending: *mut u64,
+    parked: *mut u64,
+) -> u32 {
+    let deck = from_raw_parts(deck, deck_words);
+    let bars = from_raw_parts(bars, bar_words);
+    let lent = Lent {
+        answers: from_raw_parts_mut(answers, answer_words),
+        store: from_raw_parts_mut(store, store_words),
+        scratch: from_raw_parts_mut(scratch, scratch_words),
+    };
+    let mut record = Record {
+        steps: *steps,
+        cost: *cost,
+        answers: *answer_count,
+        pending: *pending,
+        parked: *parked,
+    };
+    let number = PRESSES.press(deck, terms, bars, budget, lent, &mut *outcome, &mut record);
+    (*steps, *cost, *answer_count) = (record.steps, record.cost, record.answers);
+    (*pending, *parked) = (record.pending, record.parked);
     number
 }
 

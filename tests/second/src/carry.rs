@@ -12,7 +12,8 @@ pub mod vectors;
 
 pub use case::CarryCase;
 
-use crate::evaluation::{evaluate, Limits, Outcome};
+use crate::deck::Deck;
+use crate::evaluation::{evaluate, Limits, Outcome, Start};
 use crate::rights::Rules;
 
 /// What the caller says of the goals at the start of the store.
@@ -90,9 +91,23 @@ pub(crate) fn carry_with(
     given: Given,
     bars: &[u16],
     budget: u32,
-    (answer_words, scratch_words): (usize, usize),
+    sizes: (usize, usize),
     rules: Rules,
 ) -> Result<Outcome, Refused> {
+    let (deck, start, limits) = started(deck, store, given, bars, budget, sizes, rules)?;
+    Ok(evaluate(&deck, start, limits, rules.slip))
+}
+
+/// What an evaluation from the store's goals starts with.
+pub(crate) fn started(
+    deck: &[u16],
+    store: &[u16],
+    given: Given,
+    bars: &[u16],
+    budget: u32,
+    (answer_words, scratch_words): (usize, usize),
+    rules: Rules,
+) -> Result<(Deck, Start, Limits), Refused> {
     let deck = crate::deck::open(deck).map_err(Refused::Before)?;
     crate::lent(store.len(), scratch_words).map_err(Refused::Before)?;
     let start = stored::read(&deck.symbols, store, given).map_err(Refused::Goals)?;
@@ -103,5 +118,5 @@ pub(crate) fn carry_with(
         answer_words,
         store_words: store.len(),
     };
-    Ok(evaluate(&deck, start, limits, rules.slip))
+    Ok((deck, start, limits))
 }

@@ -131,55 +131,87 @@ impl Start {
 const DEEPEST: usize = 32;
 
 pub fn evaluate(deck: &Deck, start: Start, limits: Limits, slip: Slip) -> Outcome {
-    let held = start.parked.iter().map(|(goal, _)| goal.words).sum();
-    let mut evaluation = Evaluation {
-        deck,
-        limits,
-        levels: Vec::new(),
-        held,
-        steps: 0,
-        cost: 0,
-        lost: 0,
-        answers: Vec::new(),
-        answered_words: 0,
-        parked: start.parked,
-        watch: Watch::default(),
-        slip,
-    };
-    evaluation.start_level(start.pending);
+    let mut evaluation = Evaluation::new(deck, start, limits, slip);
     let stop = evaluation.work();
     evaluation.outcome(stop)
+}
+
+impl<'a> Evaluation<'a> {
+    fn new(deck: &'a Deck, start: Start, limits: Limits, slip: Slip) -> Evaluation<'a> {
+        let mut evaluation = Evaluation {
+            deck,
+            limits,
+            levels: Vec::new(),
+            held: start.parked.iter().map(|(goal, _)| goal.words).sum(),
+            steps: 0,
+            cost: 0,
+            lost: 0,
+            answers: Vec::new(),
+            answered_words: 0,
+            parked: start.parked,
+            watch: Watch::default(),
+            slip,
+        };
+        evaluation.start_level(start.pending);
+        evaluation
+    }
+}
+
+/// One step of level 0, with all of its inner levels to their end, and its closing; or the stop that prevented it.
+pub fn press(deck: &Deck, start: Start, limits: Limits, slip: Slip) -> (Option<Stop>, Outcome) {
+    let mut evaluation = Evaluation::new(deck, start, limits, slip);
+    let stop = evaluation.advance();
+    (stop, evaluation.outcome(stop.unwrap_or(Stop::Finished)))
 }
 
 impl Evaluation<'_> {
     fn work(&mut self) -> Stop {
         loop {
-            if self.top().pending.is_empty() {
-                if self.depth() == 0 {
-                    return Stop::Finished;
-                }
-                self.close_finished();
-                continue;
-            }
-            if let Some(stop) = self.early_stop() {
+            if let Err(stop) = self.turn() {
                 return stop;
             }
-            let Some((plan, cost)) = self.payable() else {
-                return self.cannot_pay();
-            };
-            if matches!(plan, Plan::Answer) && !self.answer_fits() {
-                return Stop::Answers;
-            }
-            let held = self.held_after(&plan);
-            if held > self.limits.store_words {
-                self.watch.refused_held = held;
-                return Stop::Store;
-            }
-            self.pay(cost);
-            self.take(plan);
-            debug_assert!(self.held == self.count_held());
-            self.watch.most_held = self.watch.most_held.max(held);
         }
+    }
+
+    /// Turns until level 0 is the deepest level again.
+    fn advance(&mut self) -> Option<Stop> {
+        loop {
+            match self.turn() {
+                Err(stop) => return Some(stop),
+                Ok(()) if self.depth() == 0 => return None,
+                Ok(()) => {}
+            }
+        }
+    }
+
+    /// A step of the deepest level, or its closing; or the stop.
+    fn turn(&mut self) -> Result<(), Stop> {
+        if self.top().pending.is_empty() {
+            if self.depth() == 0 {
+                return Err(Stop::Finished);
+            }
+            self.close_finished();
+            return Ok(());
+        }
+        if let Some(stop) = self.early_stop() {
+            return Err(stop);
+        }
+        let Some((plan, cost)) = self.payable() else {
+            return Err(self.cannot_pay());
+        };
+        if matches!(plan, Plan::Answer) && !self.answer_fits() {
+            return Err(Stop::Answers);
+        }
+        let held = self.held_after(&plan);
+        if held > self.limits.store_words {
+            self.watch.refused_held = held;
+            return Err(Stop::Store);
+        }
+        self.pay(cost);
+        self.take(plan);
+        debug_assert!(self.held == self.count_held());
+        self.watch.most_held = self.watch.most_held.max(held);
+        Ok(())
     }
 
     /// The next step, if its whole cost is left.

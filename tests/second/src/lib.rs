@@ -17,6 +17,7 @@ pub mod levels;
 pub mod listing;
 pub mod loose;
 pub mod mean;
+pub mod press;
 pub mod query;
 pub mod random;
 pub mod reader;

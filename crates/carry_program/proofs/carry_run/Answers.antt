@@ -36,7 +36,7 @@ filled : (c : After-read_words) → c.read_words.new.words ≡ store_from (words
 filled c =
     let a = c.args in
     let rest = drop 24 a.goals.now in
-    goals-stored a.goals.now _ (take_all (length a.goals.now - 24) rest (omega (arith, length-drop 24 a.goals.now))) c.requires.1 (rw c.new-lists.ensures.store at c.read_words.ensures)
+    goals-stored 24 a.goals.now _ (take_all (length a.goals.now - 24) rest (omega (arith, length-drop 24 a.goals.now))) c.requires.1 (rw c.new-lists.ensures.store at c.read_words.ensures)
 
 -- The lists have their sizes.
 sized : (c : After-read_words) → Buffers (record { answers = c.new-lists.result.answers; store = c.read_words.new.words; scratch = c.new-lists.result.scratch })

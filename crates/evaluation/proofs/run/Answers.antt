@@ -87,4 +87,4 @@ returns c =
     ∙ from-accepted g.deck a.bars.now (first_goal g.query ∷ []) [] a.budget (length a.answers.now) (length a.store.now)
     (c.in_ok-check_query.ensures g.deck g.query (opens at.After-new-clauses g) g.asks))
     (t.auto.store ∙ k.auto.store) t.auto.scratch
-    (topped-as k.auto.store (t.ensures g.deck (first_goal g.query ∷ []) [] (opens at.After-new-clauses g) (held at.After-first-held g)))
+    (topped-as g.deck (first_goal g.query ∷ []) [] t.result k.auto.store (t.ensures g.deck (first_goal g.query ∷ []) [] (opens at.After-new-clauses g) (held at.After-first-held g)))

@@ -25,7 +25,7 @@ pub overflow_sub-answers : goal.overflow_sub-answers
 overflow_sub-answers c = c.requires.is.goes.inside
 
 pub returns-then-answers-at : goal.returns-then-answers-at
-returns-then-answers-at c = λ s b. stops-unlisted b (omega (arith, c.if-answers-at.true, c.from-n.ensures))
+returns-then-answers-at c = λ s again b. stops-unlisted b (omega (arith, c.if-answers-at.true, c.from-n.ensures))
 
 pub overflow_sub-end-2 : goal.overflow_sub-end-2
 overflow_sub-end-2 c = omega (arith, c.from-n.ensures, (known (goal.at.overflow_sub-end-2 c).Start).within)
@@ -54,7 +54,7 @@ returns c =
     let k = known (goal.at.returns c).Start in
     let room : p.filled + w.result ≤ length c.args.answers.now = omega (arith, c.if-answers-at.false, c.requires.is.goes.inside) in
     let copied = image-copied c.args.answers.now c.args.store.now c.mirror.new.to p.filled (p.parts.parked + p.parts.held) w.result (omega (arith, w.ensures, k.within)) k.whole room c.mirror.ensures in
-    λ s b. (
+    λ s again b. (
       omega (arith, b.pays, ap (λ (x : Account). x.left) c.pay_one.ensures),
       rw (w.ensures, c.pay_one.ensures) (goes-listed b _ (omega (arith, w.ensures, room)) (rw w.ensures at copied)),
     )

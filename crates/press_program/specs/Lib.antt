@@ -1,0 +1,2 @@
+pub mod PressProgram
+pub mod Showing
