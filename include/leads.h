@@ -23,6 +23,7 @@
  *   leads_write_text  1 to 5, 11
  *   leads_continue    1 to 5, 8, 9, 12, 13, 15, 16
  *   leads_press       1 to 5, 8, 9, 12, 13, 15, 16
+ *   leads_preview     1 to 5 of the deck, then 1, 3, 4, 5 of its copy with the clause, then 6 to 9, 13 to 16
  *   leads_drill       1 to 5, 19
  *   leads_levels      1 to 5
  *   leads_mean        1 to 5, 17, 18
@@ -145,6 +146,19 @@ uint32_t leads_press(const uint16_t *deck, size_t deck_words, uint64_t terms, co
                      uint32_t budget, uint16_t *answers, size_t answer_words, uint16_t *store, size_t store_words,
                      uint16_t *scratch, size_t scratch_words, uint32_t *outcome, uint64_t *steps, uint64_t *cost,
                      uint64_t *answer_count, uint64_t *pending, uint64_t *parked);
+
+/* Tries a clause: a query's result as if the clause were added at the deck's end. The deck is only read, and stays as it is. clause is the
+ * clause's cells, as they would stand in the deck; any number of them may be given. Refusals 1 to 5 are first those of the deck alone.
+ * Then the copy of the deck with the clause is looked at: 1 if it would have over 16,384 words (the deck's, one more and the clause's cells),
+ * 3 without cells, 4 over 256 of them, 5 if they are not a clause. Then come a run's refusals over the copy: 13 if the clause, or one of the
+ * deck's, has a loose variable, 16 if the query reaches a barred predicate, the clause's body among those that lead on. All that is returned
+ * and left is as leads_run over the copy would have it, and all that leads_run says of its deck holds of the copy. To see what a clause
+ * changes, compare with leads_run over the deck. The goals that are left open are the copy's: they are carried on over a deck that has the
+ * clause. No room is lent for the copy: the call takes 32 KiB of stack more than leads_run. */
+uint32_t leads_preview(const uint16_t *deck, size_t deck_words, const uint16_t *clause, size_t clause_words, const uint16_t *query,
+                       size_t query_words, const uint16_t *bars, size_t bar_words, uint32_t budget, uint16_t *answers,
+                       size_t answer_words, uint16_t *store, size_t store_words, uint16_t *scratch, size_t scratch_words, uint32_t *stop,
+                       uint32_t *steps, uint32_t *cost, uint64_t *answer_count, uint32_t *pending, uint32_t *parked);
 
 /* Lists drill terms: all variable-free terms of at most n cells over the deck's functors, n from 0 to 8, shorter first, then by cells
  * compared left to right as numbers; each one time. Refusals 1 to 5, then 19 where n is over 8 or the given term (`after`) is not of that

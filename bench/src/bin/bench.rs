@@ -4,6 +4,7 @@
 
 use second::judge::{Lent, Report};
 use second::levels::NUMBERS;
+use second::preview::judge::Asked;
 use second::random::levels::{largest as worst, SHAPES};
 use std::time::{Duration, Instant};
 
@@ -177,6 +178,27 @@ fn show(name: &str, (deck, query): &(Vec<u16>, Vec<u16>), budget: u32) {
     );
 }
 
+/// The time of a run, and of a preview with a clause that changes none of its answers, budget 1: what is left is what each does before its first step.
+fn tries(name: &str, (deck, query): &(Vec<u16>, Vec<u16>), clause: &[u16]) {
+    let (mut answers, mut store, mut scratch) = (vec![0; 8192], vec![0; 16384], vec![0; 8192]);
+    let bars = nothing_barred(deck);
+    let mut report = Report::default();
+    let mut stretch = || {
+        let mut calls = 0;
+        let start = Instant::now();
+        while start.elapsed() < Duration::from_millis(100) {
+            let lent = Lent { answers: &mut answers, store: &mut store, scratch: &mut scratch };
+            let asked = Asked { deck, clause, query, bars: &bars, budget: 1 };
+            assert_eq!(compare::preview(asked, lent, &mut report), 0, "the clause is accepted");
+            calls += 1;
+        }
+        start.elapsed() / calls
+    };
+    let preview = (0..5).map(|_| stretch()).min().expect("five");
+    let run = (0..5).map(|_| timed(deck, query, 1).each).min().expect("five");
+    println!("{name:16} {:6} words {preview:9.1?} a preview of one step, {run:9.1?} a run of one", deck.len());
+}
+
 /// The time of one call for levels, the least of five.
 fn levels(name: &str, deck: &[u16]) {
     let (mut list, mut circular) = (vec![0; NUMBERS], 0);
@@ -218,6 +240,9 @@ fn runs() {
     }
     for n in [15, 16, 60] {
         show(&format!("vast {n}"), &vast(n), PROGRAM);
+    }
+    for ends in [250, 2000] {
+        tries(&format!("leads {ends}"), &leads(ends), &[ends + 1, 0]);
     }
     levels("leads 2000", &leads(2000).0);
     levels("chain 100", &chain(100).0);

@@ -93,12 +93,6 @@ literals_number ws qs = unless (found (read_literals (symbols_of (symbol_words w
 abbrev pub query_number : List ℕ → List ℕ → ℕ
 query_number ws qs = unless (leb (length qs) 500) 6 (literals_number ws qs)
 
-read_number : (ws qs : List ℕ) (d : Deck) → d.symbols ≡ symbols_of (symbol_words ws) → checked_number (read_query d qs) ≡ query_number ws qs
-unfolding read_query
-read_number ws qs d e =
-    required long_query (leb (length qs) 500) _
-    ∙ ap (unless (leb (length qs) 500) 6) (rw (← e) (obtained-last bad_query (read_literals d.symbols qs)))
-
 -- A deck that is refused is refused with any query.
 pub refused-query : (ws qs : List ℕ) (n : ℕ) → checked_number (open_deck ws) ≡ n → (n ≡ 0 → ⊥) → checked_number (check_words ws qs) ≡ n
 unfolding check_words and_then
@@ -126,6 +120,13 @@ pub accepted-starts : (ws : List ℕ) → checked_number (open_deck ws) ≡ 0 �
 accepted-starts ws e = let d = accepted-deck ws e in (steps-open ws d.0 d.1).starts
 
 -- On such a deck the query's number is the answer.
-pub accepted-query : (ws qs : List ℕ) → checked_number (open_deck ws) ≡ 0 → checked_number (check_words ws qs) ≡ query_number ws qs
-unfolding check_words and_then
-accepted-query ws qs e = let d = accepted-deck ws e in rw d.1 (read_number ws qs d.0 (accepted-symbols ws d.0 d.1))
+module _ (ws qs : List ℕ) (d : Deck) (opens : open_deck ws ≡ accepted d) where
+  pub accepted-query : checked_number (check_words ws qs) ≡ checked_number (read_query d qs)
+  unfolding check_words and_then
+  accepted-query = rw opens refl
+
+  pub read-number : checked_number (read_query d qs) ≡ query_number ws qs
+  unfolding read_query
+  read-number =
+      required long_query (leb (length qs) 500) _
+      ∙ ap (unless (leb (length qs) 500) 6) (rw (← accepted-symbols ws d opens) (obtained-last bad_query (read_literals d.symbols qs)))

@@ -15,7 +15,7 @@ pub fn fit(symbols: &[u16], rows: &Rows) -> bool
 }
 
 // A positive literal, the head, and then literals.
-fn clause(symbols: &[u16], cells: &[u16]) -> bool
+pub fn clause(symbols: &[u16], cells: &[u16]) -> bool
     ensures { result ≡ found (read_clause (symbols_of symbols.now) cells.now) }
 {
     let [head, ..] = cells else {

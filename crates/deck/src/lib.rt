@@ -2,13 +2,14 @@
 #![tactic(auto)]
 
 ghost use Rattle.std.specs.Prelude.{◌≡◌, IfOk};
-ghost use Rattle.rules.specs.Refusals.{checked_number, refusal_number};
-ghost use Rattle.rules.specs.Decks.{open_deck};
+ghost use Rattle.rules.specs.Syntax.{Deck};
+ghost use Rattle.rules.specs.Refusals.{accepted, checked_number, refusal_number};
+ghost use Rattle.rules.specs.Decks.{open_deck, read_query};
 ghost use Rattle.deck.specs.Answers.{answer_number, number_of, refusal_for, check_words};
 
 use opened::Opened;
 
-mod clauses;
+pub mod clauses;
 mod header;
 pub mod kinds;
 mod lengths;
@@ -92,7 +93,20 @@ pub fn open(deck: &[u16]) -> Result<(), Refusal>
     Ok(())
 }
 
-// Refusals 1 to 5 of the deck, then 6 and 7 of the query; loose variables are looked at by `loose`.
+// Refusals 6 and 7 of a query over an opened deck; loose variables are looked at by `loose`.
+pub fn check_query(deck: &Opened, query: &[u16]) -> Result<(), Refusal>
+    ensures { (d : Deck) → open_deck deck.now.words.now ≡ accepted d → number_of result ≡ checked_number (read_query d query.now) }
+{
+    if 500 < query.len() {
+        return Err(Refusal::LongQuery);
+    }
+    if !terms::literals(deck.symbols(), query) {
+        return Err(Refusal::Query);
+    }
+    Ok(())
+}
+
+// Refusals 1 to 5 of the deck, then these.
 pub fn check<'a>(
     deck: &'a [u16],
     query: &[u16],
@@ -102,11 +116,6 @@ pub fn check<'a>(
     ensures words { IfOk result (λ opened. opened.words.now ≡ deck.now) }
 {
     let opened = Opened::new(deck, table)?;
-    if 500 < query.len() {
-        return Err(Refusal::LongQuery);
-    }
-    if !terms::literals(opened.symbols(), query) {
-        return Err(Refusal::Query);
-    }
+    check_query(&opened, query)?;
     Ok(opened)
 }

@@ -1,4 +1,5 @@
 pub mod RunLaws
+pub mod PreviewLaws
 pub mod CarryLaws
 pub mod PressLaws
 pub mod PublicRun
@@ -7,3 +8,4 @@ pub mod PublicCarry
 pub mod PublicPress
 pub mod PublicRanks
 pub mod PublicRights
+pub mod PublicPreview

@@ -22,14 +22,14 @@ use Rattle.deck.specs.declared.Refusal as declared
 use Rattle.std.specs.Prelude.{Ok, Err}
 use Rattle.std.specs.Ordering.{nat_cmp, is_le}
 use Rattle.std.proofs.lemmas.Bool.Decides.{nat_tests}
-use Rattle.deck.specs.Answers.{number_of, refusal_for, check_words}
-use Rattle.deck.proofs.RefusalLaws.{number-positive, refused-number, number-accepts, number-refuses}
+use Rattle.deck.specs.Answers.{number_of, refusal_for}
+use Rattle.deck.proofs.RefusalLaws.{refused-number, number-accepts, number-refuses}
 use Rattle.report.specs.Reports.{stop_of as stop_of'}
 use Rattle.report.specs.declared.Report.{Report}
 use Rattle.top_level.specs.Top.{Queries, opening, Topped, of_report}
 use Rattle.rules.specs.Goals.{Marked}
 use Rattle.rules.specs.Syntax.{Goal}
-use Rattle.evaluation.specs.Results.{check_sized, Asked, check_fresh, result_of, slices}
+use Rattle.evaluation.specs.Results.{check_fresh, result_of, slices}
 
 -- CHECKS ONE AFTER THE OTHER
 module _ {A B : Type 0} where
@@ -44,15 +44,14 @@ required n true u e = refl
 required n false u e = absurd (let z : ◌≡◌ {A = ℕ} 0 1 = cc in omega arith)
 
 -- Of two checks, where the first refuses and where it does not.
-then-refused : {A B : Type 0} (c : Checked A) (next : Checked B) (why : declared.Refusal) → number_of (Err why) ≡ checked_number c → number_of (Err why) ≡ checked_number (and_then c (λ _. next))
+then-refused : {A B : Type 0} (c : Checked A) (next : A → Checked B) (why : declared.Refusal) → number_of (Err why) ≡ checked_number c → number_of (Err why) ≡ checked_number (and_then c next)
 unfolding and_then
 then-refused (refused n) next why e = e
 then-refused (accepted a) next why e = absurd (refused-number why e)
 
-then-next : {A B : Type 0} (c : Checked A) (next : Checked B) → 0 ≡ checked_number c → checked_number next ≡ checked_number (and_then c (λ _. next))
+then_accepted : {A B : Type 0} (c : Checked A) (a : A) (next : A → Checked B) → c ≡ accepted a → and_then c next ≡ next a
 unfolding and_then
-then-next (refused n) next e = absurd (omega (arith, number-positive n))
-then-next (accepted a) next e = refl
+then_accepted c a next e = rw e refl
 
 -- A check gives its number, whatever it lets through.
 last-number : {A B : Type 0} (c : Checked A) (b : B) → checked_number c ≡ checked_number (and_then c (λ _. accepted b))
@@ -89,91 +88,43 @@ module _ (store_size scratch_size : ℕ) where
       let b = (and-eq-true_iff (leb 1024 store_size) (leb store_size 65535)).0 (required bad_store (leb 1024 store_size && leb store_size 65535) s.0 s.1) in
       (leb-true 1024 store_size b.0, leb-true store_size 65535 b.1, leb-true 8192 scratch_size (required bad_scratch (leb 8192 scratch_size) u s.2))
 
-abbrev asked : Deck → List Literal → Asked
-asked d q = record { deck = d; query = q }
+-- THE CHECKS of a fresh run over an opened deck, one after the other.
+module _ (d : Deck) (query_words : List ℕ) (store_size scratch_size : ℕ) where
+  abbrev checks : Checked (List Literal)
+  checks = check_fresh d query_words store_size scratch_size
 
-module _ (deck_words query_words : List ℕ) (store_size scratch_size : ℕ) where
-  pub sized-refused : (why : declared.Refusal) → number_of (Err why) ≡ checked_number (check_words deck_words query_words)
-      → number_of (Err why) ≡ checked_number (check_sized deck_words query_words store_size scratch_size)
-  unfolding check_sized
-  sized-refused = then-refused (check_words deck_words query_words) (check_sizes store_size scratch_size)
+  pub query-refused : (why : declared.Refusal) → number_of (Err why) ≡ checked_number (read_query d query_words) → number_of (Err why) ≡ checked_number checks
+  unfolding check_fresh
+  query-refused = then-refused (read_query d query_words) _
 
-  pub sized-next : 0 ≡ checked_number (check_words deck_words query_words) → checked_number (check_sizes store_size scratch_size) ≡ checked_number (check_sized deck_words query_words store_size scratch_size)
-  unfolding check_sized
-  sized-next = then-next (check_words deck_words query_words) (check_sizes store_size scratch_size)
+  module _ (q : List Literal) (asks : read_query d query_words ≡ accepted q) where
+    pub sizes-refused : (why : declared.Refusal) → number_of (Err why) ≡ checked_number (check_sizes store_size scratch_size) → number_of (Err why) ≡ checked_number checks
+    unfolding check_fresh and_then
+    sizes-refused why e = rw asks (then-refused (check_sizes store_size scratch_size) _ why e)
 
-  -- What refusals 1 to 9 refuse, the checks of a fresh run refuse.
-  pub fresh-refused : (why : declared.Refusal) → number_of (Err why) ≡ checked_number (check_sized deck_words query_words store_size scratch_size)
-      → number_of (Err why) ≡ checked_number (check_fresh deck_words query_words store_size scratch_size)
-  unfolding check_fresh check_sized check_words and_then
-  fresh-refused why = deck (open_deck deck_words)
-    where
-      size : (s : Checked (Unit {0})) (next : Unit {0} → Checked Asked) → number_of (Err why) ≡ checked_number s → number_of (Err why) ≡ checked_number (and_then s next)
-      size (refused n) next e = e
-      size (accepted u) next e = absurd (refused-number why e)
-
-      query : (q : Checked (List Literal)) (next : List Literal → Unit {0} → Checked Asked) → number_of (Err why) ≡ checked_number (and_then q (λ _. check_sizes store_size scratch_size))
-          → number_of (Err why) ≡ checked_number (and_then q (λ l. and_then (check_sizes store_size scratch_size) (next l)))
-      query (refused n) next e = e
-      query (accepted l) next e = size (check_sizes store_size scratch_size) (next l) e
-
-      deck : (o : Checked Deck) → number_of (Err why) ≡ checked_number (and_then (and_then o (λ d. read_query d query_words)) (λ _. check_sizes store_size scratch_size))
-          → number_of (Err why) ≡ checked_number (and_then o (λ d. and_then (read_query d query_words) (λ q. and_then (check_sizes store_size scratch_size)
-          (λ _. and_then (check_tight_query d q) (λ _. accepted (asked d q))))))
-      deck (refused n) e = e
-      deck (accepted d) e = query (read_query d query_words) _ e
-
-  -- What they let through: loose variables are left.
-  pub record Sized : Type 0 where
-    pub deck : Deck
-    pub query : List Literal
-    pub opens : open_deck deck_words ≡ accepted deck
-    pub asks : read_query deck query_words ≡ accepted query
-    pub runs : checked_number (check_tight_query deck query) ≡ checked_number (check_fresh deck_words query_words store_size scratch_size)
-
-  last-checks : (d : Deck) (q : List Literal) (u : Unit {0}) → open_deck deck_words ≡ accepted d → read_query d query_words ≡ accepted q → check_sizes store_size scratch_size ≡ accepted u
-      → checked_number (check_tight_query d q) ≡ checked_number (check_fresh deck_words query_words store_size scratch_size)
-  unfolding check_fresh and_then
-  last-checks d q u o a s = rw (o, a, s) (last-number (check_tight_query d q) _)
-
-  pub run-sized : 0 ≡ checked_number (check_sized deck_words query_words store_size scratch_size) → Sized
-  unfolding check_sized check_words
-  run-sized z =
-      let r = number-accepts (check_sized deck_words query_words store_size scratch_size) z in
-      let w = passes (check_words deck_words query_words) _ r.0 r.1 in
-      let d = passes (open_deck deck_words) _ w.0 w.1 in
-      record {
-        deck = d.0;
-        query = w.0;
-        opens = d.1;
-        asks = d.2;
-        runs = last-checks d.0 w.0 r.0 d.1 d.2 w.2;
-      }
+    pub looseness-left : (u : Unit {0}) → check_sizes store_size scratch_size ≡ accepted u → checked_number (check_tight_query d q) ≡ checked_number checks
+    unfolding check_fresh and_then
+    looseness-left u s = rw (asks, s) (last-number (check_tight_query d q) q)
 
   -- What all of them let through.
   pub record Fresh : Type 0 where
-    pub deck : Deck
     pub query : List Literal
-    pub opens : open_deck deck_words ≡ accepted deck
-    pub asks : read_query deck query_words ≡ accepted query
-    pub passes_all : check_fresh deck_words query_words store_size scratch_size ≡ accepted (record { deck = deck; query = query })
+    pub asks : read_query d query_words ≡ accepted query
+    pub passes_all : checks ≡ accepted query
     pub least : 1024 ≤ store_size
     pub most : store_size ≤ 65535
     pub scratch : 8192 ≤ scratch_size
 
-  pub fresh-passes : 0 ≡ checked_number (check_fresh deck_words query_words store_size scratch_size) → Fresh
+  pub fresh-passes : 0 ≡ checked_number checks → Fresh
   unfolding check_fresh
   fresh-passes z =
-      let r = number-accepts (check_fresh deck_words query_words store_size scratch_size) z in
-      let d = passes (open_deck deck_words) _ r.0 r.1 in
-      let q = passes (read_query d.0 query_words) _ r.0 d.2 in
+      let r = number-accepts checks z in
+      let q = passes (read_query d query_words) _ r.0 r.1 in
       let s = passes (check_sizes store_size scratch_size) _ r.0 q.2 in
-      let t = passes (check_tight_query d.0 q.0) _ r.0 s.2 in
+      let t = passes (check_tight_query d q.0) _ r.0 s.2 in
       let sizes = sizes-are store_size scratch_size s.0 s.1 in
       record {
-        deck = d.0;
         query = q.0;
-        opens = d.1;
         asks = q.1;
         passes_all = r.1 ∙ sym t.2;
         least = sizes.0;
@@ -181,10 +132,10 @@ module _ (deck_words query_words : List ℕ) (store_size scratch_size : ℕ) whe
         scratch = sizes.2;
       }
 
-  pub asked-query : (f : Fresh) → Queries (symbol_words deck_words) query_words f.deck.symbols f.query
-  asked-query f =
-      let q = query-reads f.deck query_words f.query f.asks in
-      record { symbols = (steps-open deck_words f.deck f.opens).symbols; well_formed = q.1; are = q.0 }
+  pub asked-query : (deck_words : List ℕ) → open_deck deck_words ≡ accepted d → (f : Fresh) → Queries (symbol_words deck_words) query_words d.symbols f.query
+  asked-query deck_words opens f =
+      let q = query-reads d query_words f.query f.asks in
+      record { symbols = (steps-open deck_words d opens).symbols; well_formed = q.1; are = q.0 }
 
 -- A MEMBER'S RIGHTS, the last checks of every run.
 module _ (d : Deck) (bars : List ℕ) (gs : List Goal) (ms : List Marked) (total answer_room store_size : ℕ) where
@@ -198,47 +149,46 @@ module _ (d : Deck) (bars : List ℕ) (gs : List Goal) (ms : List Marked) (total
   unfolding run_from and_then
   from-accepted e = let r = number-accepts (check_rights d bars (unmarked gs ++ ms)) e in rw r.1
 
--- A fresh run is its other checks, and then the run from the first goal.
+-- A fresh run is refused with the deck;
 module _ (deck_words query_words bars : List ℕ) (total answer_room store_size scratch_size : ℕ) where
-  abbrev next_of : Asked → Checked Outcome
-  next_of a = run_from a.deck bars (first_goal a.query ∷ []) [] total answer_room store_size
+  abbrev whole : Checked Outcome
+  whole = run deck_words query_words bars total answer_room store_size scratch_size
 
-  run-then : run deck_words query_words bars total answer_room store_size scratch_size ≡ and_then (check_fresh deck_words query_words store_size scratch_size) next_of
-  unfolding run check_fresh and_then
-  run-then = deck (open_deck deck_words)
-    where
-      tight : (t : Checked (Unit {0})) (d : Deck) (q : List Literal)
-          → and_then t (λ _. run_from d bars (first_goal q ∷ []) [] total answer_room store_size) ≡ and_then (and_then t (λ _. accepted (asked d q))) next_of
-      tight (refused n) d q = refl
-      tight (accepted u) d q = refl
+  pub deck-refused : (why : declared.Refusal) → number_of (Err why) ≡ checked_number (open_deck deck_words) → whole ≡ refused (refusal_for why)
+  unfolding run and_then
+  deck-refused why e = let r = number-refuses why (open_deck deck_words) e in rw r refl
 
-      size : (s : Checked (Unit {0})) (d : Deck) (q : List Literal)
-          → and_then s (λ _. and_then (check_tight_query d q) (λ _. run_from d bars (first_goal q ∷ []) [] total answer_room store_size))
-          ≡ and_then (and_then s (λ _. and_then (check_tight_query d q) (λ _. accepted (asked d q)))) next_of
-      size (refused n) d q = refl
-      size (accepted u) d q = tight (check_tight_query d q) d q
+  -- and over one that opens it is its other checks, and then the run from the first goal.
+  module _ (d : Deck) (opens : open_deck deck_words ≡ accepted d) where
+    abbrev next_of : List Literal → Checked Outcome
+    next_of q = run_from d bars (first_goal q ∷ []) [] total answer_room store_size
 
-      query : (c : Checked (List Literal)) (d : Deck)
-          → and_then c (λ q. and_then (check_sizes store_size scratch_size) (λ _. and_then (check_tight_query d q) (λ _. run_from d bars (first_goal q ∷ []) [] total answer_room store_size)))
-          ≡ and_then (and_then c (λ q. and_then (check_sizes store_size scratch_size) (λ _. and_then (check_tight_query d q) (λ _. accepted (asked d q))))) next_of
-      query (refused n) d = refl
-      query (accepted q) d = size (check_sizes store_size scratch_size) d q
+    run-then : whole ≡ and_then (check_fresh d query_words store_size scratch_size) next_of
+    unfolding run check_fresh and_then
+    run-then = rw opens (query (read_query d query_words))
+      where
+        tight : (t : Checked (Unit {0})) (q : List Literal) → and_then t (λ _. next_of q) ≡ and_then (and_then t (λ _. accepted q)) next_of
+        tight (refused n) q = refl
+        tight (accepted u) q = refl
 
-      deck : (o : Checked Deck)
-          → and_then o (λ d. and_then (read_query d query_words) (λ q. and_then (check_sizes store_size scratch_size) (λ _. and_then (check_tight_query d q) (λ _. run_from d bars (first_goal q ∷ []) [] total answer_room store_size))))
-          ≡ and_then (and_then o (λ d. and_then (read_query d query_words) (λ q. and_then (check_sizes store_size scratch_size) (λ _. and_then (check_tight_query d q) (λ _. accepted (asked d q)))))) next_of
-      deck (refused n) = refl
-      deck (accepted d) = query (read_query d query_words) d
+        size : (s : Checked (Unit {0})) (q : List Literal)
+            → and_then s (λ _. and_then (check_tight_query d q) (λ _. next_of q)) ≡ and_then (and_then s (λ _. and_then (check_tight_query d q) (λ _. accepted q))) next_of
+        size (refused n) q = refl
+        size (accepted u) q = tight (check_tight_query d q) q
 
-  pub run-refused : (why : declared.Refusal) → number_of (Err why) ≡ checked_number (check_fresh deck_words query_words store_size scratch_size)
-      → run deck_words query_words bars total answer_room store_size scratch_size ≡ refused (refusal_for why)
-  unfolding and_then
-  run-refused why e = let r = number-refuses why (check_fresh deck_words query_words store_size scratch_size) e in run-then ∙ rw r
+        query : (c : Checked (List Literal))
+            → and_then c (λ q. and_then (check_sizes store_size scratch_size) (λ _. and_then (check_tight_query d q) (λ _. next_of q)))
+            ≡ and_then (and_then c (λ q. and_then (check_sizes store_size scratch_size) (λ _. and_then (check_tight_query d q) (λ _. accepted q)))) next_of
+        query (refused n) = refl
+        query (accepted q) = size (check_sizes store_size scratch_size) q
 
-  pub run-next : (f : Fresh deck_words query_words store_size scratch_size)
-      → run deck_words query_words bars total answer_room store_size scratch_size ≡ run_from f.deck bars (first_goal f.query ∷ []) [] total answer_room store_size
-  unfolding and_then
-  run-next f = let r = f.passes_all in run-then ∙ rw r
+    pub run-refused : (why : declared.Refusal) → number_of (Err why) ≡ checked_number (check_fresh d query_words store_size scratch_size) → whole ≡ refused (refusal_for why)
+    unfolding and_then
+    run-refused why e = let r = number-refuses why (check_fresh d query_words store_size scratch_size) e in run-then ∙ rw r
+
+    pub run-next : (f : Fresh d query_words store_size scratch_size) → whole ≡ run_from d bars (first_goal f.query ∷ []) [] total answer_room store_size
+    unfolding and_then
+    run-next f = let r = f.passes_all in run-then ∙ rw r
 
 -- A RUN, refused and accepted: fresh, or carrying on.
 pub gives-refused : (c : Checked Outcome) (s : Slices) (why : declared.Refusal) → c ≡ refused (refusal_for why) → Gives c s (result_of (Err why)) s

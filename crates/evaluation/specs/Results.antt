@@ -6,32 +6,23 @@ use Rattle.rules.specs.Run as run
 use Rattle.rules.specs.Syntax.{Symbol, Literal, Deck, Goal}
 use Rattle.rules.specs.Goals.{Marked}
 use Rattle.rules.specs.Stored.{OpenGoals, read_open}
-use Rattle.rules.specs.Decks.{open_deck, read_query}
+use Rattle.rules.specs.Decks.{read_query}
 use Rattle.rules.specs.Loose.{check_tight, check_tight_query}
 use Rattle.report.specs.Reports.{report_of}
-use Rattle.deck.specs.Answers.{refusal_for, check_words}
+use Rattle.deck.specs.Answers.{refusal_for}
 use Rattle.top_level.specs.Top.{Stored, opening, InOrder}
 use Rattle.top_level.specs.declared.Start.{Start}
 use Rattle.evaluation.specs.declared.carry.Open.{Open}
 use Rattle.deck.specs.declared.Refusal.{Refusal}
 use Rattle.report.specs.declared.Report.{Report}
 
--- Refusals 1 to 9: the words of the deck and of the query, then the sizes of the store and the scratch.
-unfoldable pub check_sized : List ℕ → List ℕ → ℕ → ℕ → rules.Checked (Unit {0})
-check_sized deck_words query_words store_size scratch_size = rules.and_then (check_words deck_words query_words) (λ _. run.check_sizes store_size scratch_size)
-
--- These, then 13 and 14, loose variables; or the deck and the query.
-pub record Asked : Type 0 where
-  pub deck : Deck
-  pub query : List Literal
-
-unfoldable pub check_fresh : List ℕ → List ℕ → ℕ → ℕ → rules.Checked Asked
-check_fresh deck_words query_words store_size scratch_size = do
-  deck ← open_deck deck_words
+-- Refusals 6 to 9 over an opened deck, of the query and of the sizes, then 13 and 14, loose variables; or the query.
+unfoldable pub check_fresh : Deck → List ℕ → ℕ → ℕ → rules.Checked (List Literal)
+check_fresh deck query_words store_size scratch_size = do
   query ← read_query deck query_words
   _ ← run.check_sizes store_size scratch_size
   _ ← check_tight_query deck query
-  rules.accepted (record { deck = deck; query = query })
+  rules.accepted query
 
 -- Refusal 12, open goals that are not as they must be, then 13, a loose variable in a clause.
 unfoldable pub check_goals : Deck → ℕ → ℕ → ℕ → List ℕ → rules.Checked OpenGoals

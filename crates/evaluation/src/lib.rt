@@ -1,12 +1,14 @@
 // The public run: its refusals, and an accepted run from the first goal to the report.
 #![tactic(auto)]
 
-ghost use Rattle.std.specs.Prelude.{◌≡◌, ℕ, ◌≤◌, length, IfOk};
-ghost use Rattle.rules.specs.Refusals.{checked_number};
-ghost use Rattle.rules.specs.Run.{check_sizes};
-ghost use Rattle.deck.specs.Answers.{answer_number, number_of};
+ghost use Rattle.std.specs.Prelude.{◌≡◌, ℕ, ◌≤◌, length};
+ghost use Rattle.rules.specs.Syntax.{Deck};
+ghost use Rattle.rules.specs.Refusals.{accepted, checked_number};
+ghost use Rattle.rules.specs.Decks.{open_deck};
+ghost use Rattle.rules.specs.Run.{check_sizes, Ran};
+ghost use Rattle.deck.specs.Answers.{number_of};
 ghost use Rattle.top_level.specs.Top.{SomeOpening, RunsStored};
-ghost use Rattle.evaluation.specs.Results.{check_sized, check_fresh, result_of, slices};
+ghost use Rattle.evaluation.specs.Results.{check_fresh, result_of, slices};
 
 use clauses::Clauses;
 use clauses::by_predicate::Index;
@@ -18,37 +20,15 @@ use top_level::{Parts, Start};
 
 pub mod carry;
 pub mod press;
+pub mod preview;
 
-// Refusals 1 to 7 of the deck and the query, then 8 and 9 of the sizes of the store and the scratch; or the deck.
-fn sized<'a>(
-    deck: &'a [u16],
-    query: &[u16],
-    store: usize,
-    scratch: usize,
-    table: &'a mut [u16; 4096],
-) -> Result<Opened<'a>, Refusal>
-    ensures number { answer_number result ≡ checked_number (check_sized deck.now query.now store scratch) }
-    ensures words { IfOk result (λ opened. opened.words.now ≡ deck.now) }
+// Refusals 6 and 7 of the query, 8 and 9 of the sizes of the store and the scratch, then 13 and 14, loose variables of the deck and the query.
+fn refusal(deck: &Opened, query: &[u16], store: usize, scratch: usize) -> Result<(), Refusal>
+    ensures { (d : Deck) → open_deck deck.now.words.now ≡ accepted d → number_of result ≡ checked_number (check_fresh d query.now store scratch) }
 {
-    let opened = deck::check(deck, query, table)?;
+    deck::check_query(deck, query)?;
     sizes(store, scratch)?;
-    Ok(opened)
-}
-
-// These, then 13 and 14, loose variables of the deck and the query.
-fn refusal<'a>(
-    deck: &'a [u16],
-    query: &[u16],
-    store: usize,
-    scratch: usize,
-    table: &'a mut [u16; 4096],
-) -> Result<Opened<'a>, Refusal>
-    ensures number { answer_number result ≡ checked_number (check_fresh deck.now query.now store scratch) }
-    ensures words { IfOk result (λ opened. opened.words.now ≡ deck.now) }
-{
-    let opened = sized(deck, query, store, scratch, table)?;
-    loose::check(&opened, query)?;
-    Ok(opened)
+    loose::check(deck, query)
 }
 
 // The sizes of the store and the scratch.
@@ -65,8 +45,8 @@ fn sizes(store: usize, scratch: usize) -> Result<(), Refusal>
 }
 
 // Answers, store and scratch stay three, as the C interface lends them.
-// THE PUBLIC RUN, for a member with the list `bars`: refusals 15 and 16 come last. A refusal leaves answers, store and scratch untouched. An accepted run fills the answer list from its start, and the
-// store begins with the pending goals in order, then the parked ones in order of parking; the rest of the store and the scratch are free.
+// THE PUBLIC RUN, for a member with the list `bars`: refusals 1 to 5 of the deck come first. A refusal leaves answers, store and scratch untouched. An accepted run fills the answer list from its start,
+// and the store begins with the pending goals in order, then the parked ones in order of parking; the rest of the store and the scratch are free.
 pub fn run(
     deck: &[u16],
     query: &[u16],
@@ -76,10 +56,26 @@ pub fn run(
     store: &mut [u16],
     scratch: &mut [u16],
 ) -> Result<Report, Refusal>
-    ensures { Rattle.rules.specs.Run.Ran deck.now query.now bars.now budget (slices answers.old store.old scratch.old) (result_of result) (slices answers.new store.new scratch.new) }
+    ensures { Ran deck.now query.now bars.now budget (slices answers.old store.old scratch.old) (result_of result) (slices answers.new store.new scratch.new) }
 {
     let mut table = [0; 4096];
-    let opened = refusal(deck, query, store.len(), scratch.len(), &mut table)?;
+    let opened = Opened::new(deck, &mut table)?;
+    run_opened(opened, query, bars, budget, answers, store, scratch)
+}
+
+// A run over a deck that opened. Refusals 15 and 16 come last.
+fn run_opened(
+    opened: Opened,
+    query: &[u16],
+    bars: &[u16],
+    budget: u32,
+    answers: &mut [u16],
+    store: &mut [u16],
+    scratch: &mut [u16],
+) -> Result<Report, Refusal>
+    ensures { Ran opened.entry.words.now query.now bars.now budget (slices answers.old store.old scratch.old) (result_of result) (slices answers.new store.new scratch.new) }
+{
+    refusal(&opened, query, store.len(), scratch.len())?;
     let mut index = Index::blank();
     index.fill(&opened);
     let clauses = Clauses::new(opened, &index);

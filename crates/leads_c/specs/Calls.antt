@@ -3,6 +3,7 @@ use Rattle.std.specs.Prelude.{ℕ, ◌≡◌, List}
 use Rattle.rules.specs.Refusals.{refusal_number, Checked, refused, accepted}
 use Rattle.rules.specs.Evaluation.{Outcome, stop_number}
 use Rattle.rules.specs.Run.{Report, Slices, Gives, run_on, carry_from}
+use Rattle.rules.specs.Preview.{preview_on}
 
 pub record Numbers : Type 0 where
   pub stop : ℕ
@@ -29,9 +30,12 @@ pub record Calls (c : Checked Outcome) (entry : Slices) (before : Numbers) (r : 
   pub gives : Gives c entry result exit
   pub tells : Tells result before r after
 
--- The calls for a run, and for one that carries on.
+-- The calls for a run, for one that carries on, and for a preview.
 abbrev pub Called : List ℕ → List ℕ → List ℕ → ℕ → Slices → Numbers → ℕ → Slices → Numbers → Type 0
 Called deck query bars budget entry = Calls (run_on deck query bars budget entry) entry
 
 abbrev pub CalledOn : List ℕ → ℕ → ℕ → ℕ → List ℕ → ℕ → Slices → Numbers → ℕ → Slices → Numbers → Type 0
 CalledOn deck pending parked terms bars budget entry = Calls (carry_from deck pending parked terms bars budget entry) entry
+
+abbrev pub PreviewCalled : List ℕ → List ℕ → List ℕ → List ℕ → ℕ → Slices → Numbers → ℕ → Slices → Numbers → Type 0
+PreviewCalled deck clause query bars budget entry = Calls (preview_on deck clause query bars budget entry) entry

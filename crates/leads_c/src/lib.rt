@@ -5,7 +5,7 @@ ghost use Rattle.std.specs.Prelude.{◌≡◌};
 ghost use Rattle.rules.specs.Refusals.{checked_number};
 ghost use Rattle.rules.specs.Decks.{open_deck, check_query};
 ghost use Rattle.evaluation.specs.Results.{result_of, slices};
-ghost use Rattle.leads_c.specs.Calls.{Called, CalledOn, Tells, numbers};
+ghost use Rattle.leads_c.specs.Calls.{Called, CalledOn, PreviewCalled, Tells, numbers};
 ghost use Rattle.leads_c.specs.TextCalls.{ReadCalled, WriteCalled};
 ghost use Rattle.leads_c.specs.DrillCalls.{DrillCalled};
 ghost use Rattle.leads_c.specs.LevelCalls.{LevelsCalled, circular_number};
@@ -86,6 +86,31 @@ pub extern "C" fn leads_continue(
         pending_after,
         parked_after,
     )
+}
+
+#[unsafe(no_mangle)]
+pub extern "C" fn leads_preview(
+    deck: &[u16],
+    clause: &[u16],
+    query: &[u16],
+    bars: &[u16],
+    budget: u32,
+    answers: &mut [u16],
+    store: &mut [u16],
+    scratch: &mut [u16],
+    stop: &mut u32,
+    steps: &mut u32,
+    cost: &mut u32,
+    answer_count: &mut u64,
+    pending: &mut u32,
+    parked: &mut u32,
+) -> u32
+    ensures { PreviewCalled deck.now clause.now query.now bars.now budget (slices answers.old store.old scratch.old) (numbers stop.old steps.old cost.old answer_count.old pending.old parked.old) result (slices answers.new store.new scratch.new) (numbers stop.new steps.new cost.new answer_count.new pending.new parked.new) }
+{
+    let ran = evaluation::preview::preview(
+        deck, clause, query, bars, budget, answers, store, scratch,
+    );
+    told(ran, stop, steps, cost, answer_count, pending, parked)
 }
 
 // The number of a refusal, with the numbers as they were; or 0, with the report's. C passes a pointer for each, so they are no struct.

@@ -19,14 +19,14 @@ use Rattle.rules.proofs.CellLaws.{read-in_order, in_order-reads}
 use Rattle.rules.proofs.SymbolLaws.{both, all_read, all-written, symbol-read, symbol-written, symbols-length, words-of-pairs, values-of-pairs, pairs-read, kept-distinct, keeps-distinct}
 
 -- Clauses.
-clause-read : (S : List Symbol) (c : Clause) → WfClause S c → read_clause S (write_clause c) ≡ some c
+pub clause-read : (S : List Symbol) (c : Clause) → WfClause S c → read_clause S (write_clause c) ≡ some c
 unfolding read_clause write_clause head_and_body
 clause-read S c w = ap head_and_body (read-in_order S (clause_literals c) w.literals w.in_order (omega (arith, w.short)))
 
-abbrev RightClause : List Symbol → Clause → Type 0
+abbrev pub RightClause : List Symbol → Clause → Type 0
 RightClause S c = WfLiterals S (clause_literals c) × InOrder (vars_literals (clause_literals c))
 
-clause-written : (S : List Symbol) (cells : List ℕ) (c : Clause) → read_clause S cells ≡ some c → (cells ≡ write_clause c) × RightClause S c
+pub clause-written : (S : List Symbol) (cells : List ℕ) (c : Clause) → read_clause S cells ≡ some c → (cells ≡ write_clause c) × RightClause S c
 unfolding read_clause write_clause head_and_body
 clause-written S cells c e = go (read_literals S cells) refl e
   where
@@ -39,7 +39,7 @@ clause-written S cells c e = go (read_literals S cells) refl e
         (h.0.written, (h.0.literals, h.1))
     go (some (neg p ts ∷ ls)) r q = absurd (none-ne-some c q)
 
-rows_short_lem : (S : List Symbol) (cs : List Clause) → All (WfClause S) cs → rows_short (map write_clause cs) ≡ true
+pub rows_short_lem : (S : List Symbol) (cs : List Clause) → All (WfClause S) cs → rows_short (map write_clause cs) ≡ true
 unfolding rows_short
 rows_short_lem S [] w = refl
 rows_short_lem S (c ∷ cs) w = both (leb (length (write_clause c)) 256) (rows_short (map write_clause cs)) (le-leb (length (write_clause c)) 256 w.0.short) (rows_short_lem S cs w.1)
@@ -52,7 +52,7 @@ short-rows S (c ∷ cs) e w =
     (record { literals = w.0.0; in_order = w.0.1; short = leb-true (length (write_clause c)) 256 t.0 }, short-rows S cs t.1 w.1)
 
 -- Where clauses start.
-clause-first : (c : Clause) → 1 ≤ length (write_clause c)
+pub clause-first : (c : Clause) → 1 ≤ length (write_clause c)
 unfolding write_clause
 clause-first c = omega arith
 
@@ -248,22 +248,22 @@ fit-facts ws e =
 
 -- The words of a deck: eight, then the symbols, the clause starts and the cells.
 module _ (hdr xs ys zs : List ℕ) (n s c : ℕ) (h : length hdr ≡ n) (hx : length xs ≡ s) (hy : length ys ≡ c) where
-  middle : take c (drop (n + s) (hdr ++ (xs ++ (ys ++ zs)))) ≡ ys
+  pub middle : take c (drop (n + s) (hdr ++ (xs ++ (ys ++ zs)))) ≡ ys
   middle =
       ap (λ l. take c (drop (n + s) l)) (sym (append_assoc hdr xs (ys ++ zs)))
       ∙ ap (take c) (drop_at (hdr ++ xs) (ys ++ zs) (n + s) (length-append hdr xs ∙ ap₂ ◌+◌ h hx))
       ∙ take_at ys zs c hy
 
-  end : drop (n + s + c) (hdr ++ (xs ++ (ys ++ zs))) ≡ zs
+  pub end : drop (n + s + c) (hdr ++ (xs ++ (ys ++ zs))) ≡ zs
   end =
       ap (drop (n + s + c)) (sym (append_assoc hdr xs (ys ++ zs)) ∙ sym (append_assoc (hdr ++ xs) ys zs))
       ∙ drop_at ((hdr ++ xs) ++ ys) zs (n + s + c) (length-append (hdr ++ xs) ys ∙ ap₂ ◌+◌ (length-append hdr xs ∙ ap₂ ◌+◌ h hx) hy)
 
-format-least : (F : Format) → 1 ≤ format_number F
+pub format-least : (F : Format) → 1 ≤ format_number F
 format-least format1 = omega arith
 format-least (format2 vs) = omega arith
 
-format-most : (F : Format) → format_number F ≤ 2
+pub format-most : (F : Format) → format_number F ≤ 2
 format-most format1 = omega arith
 format-most (format2 vs) = omega arith
 

@@ -44,6 +44,9 @@ pub mod Demand3
 pub mod StoredLaws
 pub mod CarryTable
 pub mod Carried
+-- Previews.
+pub mod CopyLaws
+pub mod PreviewRuns
 -- Columns.
 pub mod MeanLaws
 pub mod ColumnLaws
@@ -96,3 +99,4 @@ pub mod RefusalRuns
 pub mod ListingRuns
 pub mod DrillRuns
 pub mod FormatTable
+pub mod PreviewTable

@@ -15,6 +15,7 @@ pub mod Ranks
 pub mod Stored
 pub mod Rights
 pub mod Run
+pub mod Preview
 pub mod Column
 pub mod Press
 pub mod Meaning
@@ -23,6 +24,7 @@ pub mod Demand
 pub mod Listing
 pub mod Program
 pub mod CarryProgram
+pub mod PreviewProgram
 pub mod Drill
 pub mod DrillProgram
 pub mod All

@@ -4,6 +4,7 @@ use second::carry::Given;
 use second::judge::{Engine, Lent, Report};
 use second::mean::{Column, Mean};
 use second::press::Record;
+use second::preview::judge::Asked;
 
 #[cfg(feature = "stand-in")]
 mod stand_in;
@@ -114,6 +115,30 @@ mod c {
             levels: *mut u16,
             level_words: usize,
             circular: *mut u32,
+        ) -> u32;
+        #[allow(clippy::too_many_arguments)]
+        pub fn leads_preview(
+            deck: *const u16,
+            deck_words: usize,
+            clause: *const u16,
+            clause_words: usize,
+            query: *const u16,
+            query_words: usize,
+            bars: *const u16,
+            bar_words: usize,
+            budget: u32,
+            answers: *mut u16,
+            answer_words: usize,
+            store: *mut u16,
+            store_words: usize,
+            scratch: *mut u16,
+            scratch_words: usize,
+            stop: *mut u32,
+            steps: *mut u32,
+            cost: *mut u32,
+            answer_count: *mut u64,
+            pending: *mut u32,
+            parked: *mut u32,
         ) -> u32;
         #[allow(clippy::too_many_arguments)]
         pub fn leads_mean(
@@ -250,6 +275,35 @@ pub fn mean(deck: &[u16], list: &[u16], asked: Column, found: &mut Mean) -> u32 
     unsafe { c::leads_mean(deck.as_ptr(), deck.len(), list.as_ptr(), list.len(), count, terms, column, sum, whole, remainder) }
 }
 
+/// 0 and the report filled in, or the refusal's number, 1 to 9 or 13 to 16, with nothing touched.
+pub fn preview(asked: Asked<'_>, lent: Lent<'_>, report: &mut Report) -> u32 {
+    unsafe {
+        c::leads_preview(
+            asked.deck.as_ptr(),
+            asked.deck.len(),
+            asked.clause.as_ptr(),
+            asked.clause.len(),
+            asked.query.as_ptr(),
+            asked.query.len(),
+            asked.bars.as_ptr(),
+            asked.bars.len(),
+            asked.budget,
+            lent.answers.as_mut_ptr(),
+            lent.answers.len(),
+            lent.store.as_mut_ptr(),
+            lent.store.len(),
+            lent.scratch.as_mut_ptr(),
+            lent.scratch.len(),
+            &mut report.stop,
+            &mut report.steps,
+            &mut report.cost,
+            &mut report.answers,
+            &mut report.pending,
+            &mut report.parked,
+        )
+    }
+}
+
 /// The engine behind the calls that the second evaluator judges.
 pub struct Leads;
 
@@ -312,5 +366,11 @@ impl second::levels::judge::Engine for Leads {
 impl second::mean::judge::Engine for Leads {
     fn mean(&self, deck: &[u16], list: &[u16], asked: Column, found: &mut Mean) -> u32 {
         mean(deck, list, asked, found)
+    }
+}
+
+impl second::preview::judge::Engine for Leads {
+    fn preview(&self, asked: Asked<'_>, lent: Lent<'_>, report: &mut Report) -> u32 {
+        preview(asked, lent, report)
     }
 }

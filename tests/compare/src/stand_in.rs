@@ -16,6 +16,8 @@ use second::mean::{judge as means, Column, Mean};
 use second::press::judge::Engine as Presses;
 use second::press::slips::SLIPS as PRESSING;
 use second::press::Record;
+use second::preview::judge as previews;
+use second::preview::slips::SLIPS as PREVIEWING;
 use second::rights::slips::SLIPS as RIGHTS;
 use second::text::judge::{Engine, Second};
 use second::text::slips::SLIPS;
@@ -87,6 +89,11 @@ static MEAN: LazyLock<&dyn means::Engine> = LazyLock::new(|| match MEANS.iter().
     },
 });
 
+static PREVIEWS: LazyLock<&dyn previews::Engine> = LazyLock::new(|| match PREVIEWING.iter().find(|slip| named(slip.name)) {
+    Some(slip) => slip,
+    None => &previews::Second,
+});
+
 /// The slip of this name is asked for. A name that no slip has is an error.
 fn named(name: &str) -> bool {
     std::env::var("SLIP").is_ok_and(|wanted| {
@@ -98,9 +105,9 @@ fn named(name: &str) -> bool {
         let rights = RIGHTS.iter().map(|slip| slip.name);
         let reading = READING.iter().map(|slip| slip.name);
         let means = MEANS.iter().map(|slip| slip.name);
-        let runs = runs.chain(paying).chain(drilling).chain(ranking).chain(rights).chain(reading).chain(means);
         let pressing = PRESSING.iter().map(|slip| slip.name);
-        let runs = runs.chain(pressing);
+        let previewing = PREVIEWING.iter().map(|slip| slip.name);
+        let runs = runs.chain(previewing).chain(pressing).chain(paying).chain(drilling).chain(ranking).chain(rights).chain(reading).chain(means);
         let mut all = texts.chain(slips::SLIPS.iter().map(|slip| slip.name)).chain(runs);
         assert!(all.any(|one| one == wanted), "no slip of this name");
         wanted == name
@@ -344,5 +351,58 @@ pub unsafe extern "C" fn leads_mean(
     let mut found = Mean { sum: *sum, whole: *whole, remainder: *remainder };
     let number = MEAN.mean(deck, list, Column { count, terms, column }, &mut found);
     (*sum, *whole, *remainder) = (found.sum, found.whole, found.remainder);
+    number
+}
+
+/// # Safety
+/// As in `include/leads.h`.
+#[no_mangle]
+#[allow(clippy::too_many_arguments)]
+pub unsafe extern "C" fn leads_preview(
+    deck: *const u16,
+    deck_words: usize,
+    clause: *const u16,
+    clause_words: usize,
+    query: *const u16,
+    query_words: usize,
+    bars: *const u16,
+    bar_words: usize,
+    budget: u32,
+    answers: *mut u16,
+    answer_words: usize,
+    store: *mut u16,
+    store_words: usize,
+    scratch: *mut u16,
+    scratch_words: usize,
+    stop: *mut u32,
+    steps: *mut u32,
+    cost: *mut u32,
+    answer_count: *mut u64,
+    pending: *mut u32,
+    parked: *mut u32,
+) -> u32 {
+    let asked = previews::Asked {
+        deck: from_raw_parts(deck, deck_words),
+        clause: from_raw_parts(clause, clause_words),
+        query: from_raw_parts(query, query_words),
+        bars: from_raw_parts(bars, bar_words),
+        budget,
+    };
+    let lent = Lent {
+        answers: from_raw_parts_mut(answers, answer_words),
+        store: from_raw_parts_mut(store, store_words),
+        scratch: from_raw_parts_mut(scratch, scratch_words),
+    };
+    let mut report = Report {
+        stop: *stop,
+        steps: *steps,
+        cost: *cost,
+        answers: *answer_count,
+        pending: *pending,
+        parked: *parked,
+    };
+    let number = PREVIEWS.preview(asked, lent, &mut report);
+    (*stop, *steps, *cost, *answer_count) = (report.stop, report.steps, report.cost, report.answers);
+    (*pending, *parked) = (report.pending, report.parked);
     number
 }

@@ -18,6 +18,7 @@ pub mod listing;
 pub mod loose;
 pub mod mean;
 pub mod press;
+pub mod preview;
 pub mod query;
 pub mod random;
 pub mod reader;

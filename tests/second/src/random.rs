@@ -9,6 +9,7 @@ pub mod levels;
 mod limits;
 pub mod means;
 pub(crate) mod members;
+pub mod previews;
 mod programs;
 mod rows;
 mod signature;

@@ -1,28 +1,28 @@
--- `refusal`: what refusals 1 to 9 say, and loose variables where they say nothing.
-use mathlib.Core.Path.{ap, ◌∙◌}
+-- `refusal`: the checks, one after the other.
+use mathlib.Core.Path.{◌∙◌}
 use Rattle.std.proofs.lemmas.Result.{err_from_is_err_and}
-use Rattle.rules.specs.Decks.{open_deck}
-use Rattle.evaluation.proofs.RunLaws.{Sized, fresh-refused, run-sized}
+use Rattle.deck.proofs.RefusalLaws.{number-accepts}
+use Rattle.rules.specs.Decks.{read_query}
+use Rattle.rules.specs.Run.{check_sizes}
+use Rattle.evaluation.proofs.RunLaws.{query-refused, sizes-refused, looseness-left}
 use Rattle.evaluation.proofs.refusal.Goals as goal
-use Rattle.evaluation.proofs.refusal.Goals.{In_ok-opened}
 
--- The deck and the query that are let through.
-given : (c : goal.In_ok-opened) → let a = c.args in Sized a.deck.now a.query.now a.store a.scratch
-given c = let a = c.args in run-sized a.deck.now a.query.now a.store a.scratch c.in_ok-opened.ensures.number
-
-pub returns-in_err-opened-clause-number : goal.returns-in_err-opened-clause-number
-returns-in_err-opened-clause-number c =
+pub returns-in_err-check_query : goal.returns-in_err-check_query
+returns-in_err-check_query c d o =
     let a = c.args in
     let p = err_from_is_err_and c.from_residual.result c.from_residual.ensures.1 in
-    rw (p.1, p.2) (fresh-refused a.deck.now a.query.now a.store a.scratch c.in_err-opened.field-0.0 c.in_err-opened.ensures.number)
+    rw (p.1, p.2) (query-refused d a.query.now a.store a.scratch c.in_err-check_query.field-0.0 (c.in_err-check_query.ensures d o))
 
-pub returns-in_err-check-clause-number : goal.returns-in_err-check-clause-number
-returns-in_err-check-clause-number c =
-    let g = given (goal.at.returns-in_err-check-clause-number c).In_ok-opened in
-    let p = err_from_is_err_and c.from_residual-in_err-check.result c.from_residual-in_err-check.ensures.1 in
-    rw (p.1, p.2) (c.in_err-check.ensures g.deck g.query (ap open_deck c.in_ok-opened.ensures.words ∙ g.opens) g.asks ∙ g.runs)
+pub returns-in_err-sizes : goal.returns-in_err-sizes
+returns-in_err-sizes c d o =
+    let a = c.args in
+    let p = err_from_is_err_and c.from_residual-in_err-sizes.result c.from_residual-in_err-sizes.ensures.1 in
+    let q = number-accepts (read_query d a.query.now) (c.in_ok-check_query.ensures d o) in
+    rw (p.1, p.2) (sizes-refused d a.query.now a.store a.scratch q.0 q.1 c.in_err-sizes.field-0.0 c.in_err-sizes.ensures)
 
-pub returns-clause-number : goal.returns-clause-number
-returns-clause-number c =
-    let g = given (goal.at.returns-clause-number c).In_ok-opened in
-    c.in_ok-check.ensures g.deck g.query (ap open_deck c.in_ok-opened.ensures.words ∙ g.opens) g.asks ∙ g.runs
+pub returns : goal.returns
+returns c d o =
+    let a = c.args in
+    let q = number-accepts (read_query d a.query.now) (c.in_ok-check_query.ensures d o) in
+    let s = number-accepts (check_sizes a.store a.scratch) c.in_ok-sizes.ensures in
+    c.check.ensures d q.0 o q.1 ∙ looseness-left d a.query.now a.store a.scratch q.0 q.1 s.0 s.1

@@ -1,0 +1,95 @@
+-- The preview's contract, on the program's buffers, gives what is printed.
+use Rattle.std.proofs.Common.{rules, ◌≡◌, ℕ, List, length, ap, sym, ◌∙◌, subst, arith}
+use Rattle.std.proofs.lemmas.Result.{err_from_is_err_and}
+use Rattle.rules.specs.Syntax.{Deck}
+use Rattle.rules.specs.Refusals.{accepted}
+use Rattle.rules.specs.Decks.{symbol_words, open_deck}
+use Rattle.rules.specs.Evaluation.{Outcome}
+use Rattle.rules.specs.Run.{answers_after}
+use Rattle.rules.specs.CarryProgram.{bars_from}
+use Rattle.rules.specs.Preview.{lengthened}
+use Rattle.rules.specs.PreviewProgram.{preview_words}
+use Rattle.rules.proofs.CopyLaws.{copy-symbols}
+use Rattle.report.specs.Reports.{report_of}
+use Rattle.listing.specs.Printed.{file_of}
+use Rattle.listing.specs.Shown.{Shown}
+use Rattle.listing.proofs.RunLaws.{run-shown}
+use Rattle.listing.proofs.PutLaws.{put_at_start}
+use Rattle.listing.proofs.PrintedLaws.{put-printed}
+use Rattle.deck.proofs.OpenLaws.{accepted-deck}
+use Rattle.deck.proofs.RefusalLaws.{number-refuses}
+use Rattle.program.proofs.PartLaws.{zeros-buffers}
+use Rattle.preview_program.proofs.PartLaws.{deck-refused, preview-refused, preview-done}
+use Rattle.preview_program.proofs.listed.Goals as goal
+use Rattle.preview_program.proofs.listed.Goals.{In_ok-opened, After-bars_of-bars, In_ok-report}
+
+-- The deck that opened, and the list.
+deck : (k : goal.In_ok-opened) → (d : Deck) × (open_deck k.args.deck.now ≡ accepted d)
+deck k = let d = accepted-deck k.in_ok-opened.opened.words.now k.in_ok-opened.opened.opens in (d.0, ap open_deck (sym k.in_ok-opened.ensures.words) ∙ d.1)
+
+barred : (k : goal.After-bars_of-bars) (d : Deck) → open_deck k.args.deck.now ≡ accepted d → k.bars_of-bars.result.now ≡ bars_from (length d.symbols) (file_of k.args.bars)
+barred k d e = k.bars_of-bars.ensures d (ap open_deck k.in_ok-opened.ensures.words ∙ e)
+
+pub returns-in_err-opened : goal.returns-in_err-opened
+returns-in_err-opened c =
+    let a = c.args in
+    let p = err_from_is_err_and c.from_residual.result c.from_residual.ensures.1 in
+    rw (p.1, p.2) (deck-refused a.deck.now a.clause.now a.query.now (file_of a.bars) _ (number-refuses _ (open_deck a.deck.now) c.in_err-opened.ensures.number), search rules)
+
+-- The preview was done, and can be listed: the copy's symbols are the deck's.
+shown :
+    (c : In_ok-report) → let a = c.args in
+    (o : Outcome) × (preview_words a.deck.now a.clause.now a.query.now (file_of a.bars) ≡ accepted o)
+    × Shown o c.in_ok-report.report c.preview.new.answers (symbol_words a.deck.now)
+shown c =
+    let a = c.args in
+    let report = c.in_ok-report.report in
+    let at = goal.at.In_ok-report c in
+    let d = deck at.In_ok-opened in
+    let z = barred at.After-bars_of-bars d.0 d.1 in
+    let t = preview-done a.deck.now a.clause.now a.query.now _ (file_of a.bars) d.0 d.1 z _ _ (zeros-buffers c.new-lists.ensures.answers c.new-lists.ensures.store c.new-lists.ensures.scratch) (report_of report)
+    c.in_ok-report.ensures in
+    let s = run-shown (lengthened a.deck.now a.clause.now) a.query.now _ 100000 8192 16384 8192 t.0 t.4 report t.2 c.new-lists.result.answers in (
+      t.0,
+      t.1,
+      subst (λ (list : List ℕ). Shown t.0 report list (symbol_words a.deck.now)) (sym t.3)
+          (subst (λ (symbols : List ℕ). Shown t.0 report (answers_after t.0 c.new-lists.result.answers) symbols) (copy-symbols a.deck.now d.0 a.clause.now d.1) s),
+    )
+
+pub returns-in_err-report : goal.returns-in_err-report
+returns-in_err-report c =
+    let a = c.args in
+    let at = goal.at.returns-in_err-report c in
+    let d = deck at.In_ok-opened in
+    let z = barred at.After-bars_of-bars d.0 d.1 in
+    let p = err_from_is_err_and c.from_residual-in_err-report.result c.from_residual-in_err-report.ensures.1 in
+    rw (p.1, p.2) (
+      preview-refused a.deck.now a.clause.now a.query.now _ (file_of a.bars) d.0 d.1 z _ _ (zeros-buffers c.new-lists.ensures.answers c.new-lists.ensures.store c.new-lists.ensures.scratch) _
+          c.in_err-report.ensures,
+      search rules,
+    )
+
+pub put_listing-requires-clause-room : goal.put_listing-requires-clause-room
+put_listing-requires-clause-room c =
+    let o = c.new-out.ensures in
+    (omega (arith, c.preview.auto.answers), omega (arith, o.start, ap length o.bytes, c.told-out, c.preview.auto.answers))
+
+pub put_listing-requires-clause-shown : goal.put_listing-requires-clause-shown
+put_listing-requires-clause-shown c =
+    let s = shown (goal.at.put_listing-requires-clause-shown c).In_ok-report in
+    (s.0, rw (c.symbols.ensures ∙ ap symbol_words c.in_ok-opened.ensures.words) s.2)
+
+pub shape_of-out : goal.shape_of-out
+shape_of-out c =
+    let s = shown (goal.at.shape_of-out c).In_ok-report in
+    let a = c.put_listing.ensures.adds s.0 (rw (c.symbols.ensures ∙ ap symbol_words c.in_ok-opened.ensures.words) s.2) in
+    search (rules, c.new-out.ensures.same_reference, a.same_reference)
+
+pub returns : goal.returns
+returns c =
+    let s = shown (goal.at.returns c).In_ok-report in
+    let o = c.new-out.ensures in
+    let a = c.put_listing.ensures.adds s.0 (rw (c.symbols.ensures ∙ ap symbol_words c.in_ok-opened.ensures.words) s.2) in
+    rw s.1
+    (put-printed (put_at_start o.bytes o.start a (search rules))
+    (omega (arith, a.put.place, c.put_listing.ensures.short, o.start, c.told-out, c.preview.auto.answers)))
