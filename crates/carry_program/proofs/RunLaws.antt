@@ -109,7 +109,7 @@ module _ (deck_words query_words bars : List ℕ) (d : Deck) (opens : open_deck 
       let q = query-reads a.deck query_words a.query a.asks in
       let cells = query-cells (record { symbols = (steps-open deck_words a.deck a.opens).symbols; well_formed = q.1; are = q.0 }) in
       let named : terms ≡ length (query_variables a.query) =
-      many (symbol_words deck_words) 0 a.deck.symbols _ cells ∙ sym (top_goal-above (record { answers = nil; literals = a.query })) ∙ sym (numbered-count (vars_literals a.query) q.1.in_order) in
+      many (symbol_words deck_words) 0 a.deck.symbols _ cells ∙ sym (top_goal-above (record { answer_terms = nil; literals = a.query })) ∙ sym (numbered-count (vars_literals a.query) q.1.in_order) in
       let first : Fits a.deck.symbols terms (first_goal a.query) = record {
         wf = first_goal-wf a.deck.symbols a.query q.1;
         many = variables-count (query_variables a.query) ∙ sym named;

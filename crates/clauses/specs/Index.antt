@@ -28,7 +28,7 @@ abbrev pub Indexed : List ℕ → Index → Type 0
 Indexed deck_words index = (d : Deck) → open_deck deck_words ≡ accepted d → Indexes (symbol_words deck_words) d.clauses index
 
 -- An index of no clause.
-pub record Blank (index : Index) : Type 0 where
+pub record EmptyIndex (index : Index) : Type 0 where
   pub uncounted : Uncounted index.groups.begins
   pub unset : (w : ℕ) → get_or index.rows w 0 ≡ 0
 

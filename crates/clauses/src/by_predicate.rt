@@ -2,7 +2,7 @@
 ghost use Rattle.std.specs.Prelude.{◌≡◌, ◌+◌, ◌<◌, length};
 ghost use Rattle.rules.specs.Decks.{symbol_words};
 ghost use Rattle.signature.specs.Symbols.{arity_at};
-ghost use Rattle.clauses.specs.Index.{Blank, Indexed, FilledBelow, Places, numbers_at, RowFor};
+ghost use Rattle.clauses.specs.Index.{EmptyIndex, Indexed, FilledBelow, Places, numbers_at, RowFor};
 
 use crate::groups::Groups;
 use crate::rows::{self, Row};
@@ -19,7 +19,7 @@ pub struct Index {
 impl Index {
     // An index of no clause.
     pub fn blank() -> Index
-        ensures { Blank result }
+        ensures { EmptyIndex result }
     {
         Index {
             groups: Groups::blank(),
@@ -29,7 +29,7 @@ impl Index {
 
     // Puts the deck's clauses into groups and rows.
     pub fn fill(&mut self, deck: &Opened)
-        requires { Blank self.old }
+        requires { EmptyIndex self.old }
         ensures { Indexed deck.now.words.now self.new }
     {
         self.groups.fill(deck);

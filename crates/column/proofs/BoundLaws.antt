@@ -111,8 +111,8 @@ module _ (F : Format) (h : FormatFits F) where
   unfolding column_words read_all
   column-fits place [] us e = subst Words (some-injective [] us e) tt
   column-fits place (g ∷ gs) us e =
-      let n = read_next_lem (entry_word F place g.answers) (column_words F place gs) us e in
-      subst Words n.4 (entry-fits place g.answers n.0 n.2, column-fits place gs n.1 n.3)
+      let n = read_next_lem (entry_word F place g.answer_terms) (column_words F place gs) us e in
+      subst Words n.4 (entry-fits place g.answer_terms n.0 n.2, column-fits place gs n.1 n.3)
 
 total-within : (ws : List ℕ) → Words ws → Within (total ws) (length ws)
 unfolding total

@@ -33,7 +33,7 @@ pub record GoalHere (list : List ℕ) (gs : List Goal) : Type 0 where
   pub others : List Goal
   pub same : gs ≡ goal ∷ others
   pub word : get_or list 0 0 ≡ goal_words goal
-  pub cells : get_or list 1 0 ≡ sizes goal.answers
+  pub cells : get_or list 1 0 ≡ sizes goal.answer_terms
   pub least : 2 ≤ goal_words goal
   pub fits : goal_words goal ≤ length list
   pub after : GoalsAt (drop (goal_words goal) list) others
@@ -58,7 +58,7 @@ goal-here list (g ∷ gs) a h =
     }
 
 -- A goal is bare just if its answer terms' cells are all of its cells.
-pub bare-goal : (g : Goal) → goal_words g ≡ sizes g.answers + 2 → bare g.literals ≡ true
+pub bare-goal : (g : Goal) → goal_words g ≡ sizes g.answer_terms + 2 → bare g.literals ≡ true
 unfolding bare
 bare-goal g e = go g.literals (omega (arith, goal-words g, e))
   where
@@ -66,7 +66,7 @@ bare-goal g e = go g.literals (omega (arith, goal-words g, e))
     go [] q = refl
     go (l ∷ ls) q = absurd (omega (arith, q))
 
-pub full-goal : (g : Goal) → (goal_words g ≡ sizes g.answers + 2 → ⊥) → bare g.literals ≡ false
+pub full-goal : (g : Goal) → (goal_words g ≡ sizes g.answer_terms + 2 → ⊥) → bare g.literals ≡ false
 unfolding bare
 full-goal g h = go g.literals (λ q. h (omega (arith, goal-words g, q)))
   where
@@ -132,5 +132,5 @@ column-at ws list d n terms place gs opens r h =
         formed = all-weaken (Answer d.symbols terms) (WfGoal d.symbols) (λ g a. a.fits.wf) gs r.answers;
         bare = all-weaken (Answer d.symbols terms) (λ g. g.literals ≡ []) (λ g a. a.plain) gs r.answers;
       };
-      inside = all-weaken (Answer d.symbols terms) (λ g. place < count g.answers) (λ g a. omega (arith, a.fits.many, h)) gs r.answers;
+      inside = all-weaken (Answer d.symbols terms) (λ g. place < count g.answer_terms) (λ g a. omega (arith, a.fits.many, h)) gs r.answers;
     }

@@ -31,12 +31,12 @@ add-word z w none = refl
 add-word z w (some ws) = ap {B = Option ℤ} some (omega (arith, ints))
 
 module _ (F : Format) (place : ℕ) where
-  pub sum-next : (z : ℤ) (g : Goal) (gs : List Goal) (w : ℕ) → entry_word F place g.answers ≡ some w
+  pub sum-next : (z : ℤ) (g : Goal) (gs : List Goal) (w : ℕ) → entry_word F place g.answer_terms ≡ some w
       → add_to z (column_words F place (g ∷ gs)) ≡ add_to (z +ℤ value_of w) (column_words F place gs)
   unfolding column_words read_all
   sum-next z g gs w e = ap (λ o. add_to z (read_next o (column_words F place gs))) e ∙ add-word z w (column_words F place gs)
 
-  pub sum-none : (g : Goal) (gs : List Goal) → entry_word F place g.answers ≡ none → (z : ℤ) → add_to z (column_words F place (g ∷ gs)) ≡ none
+  pub sum-none : (g : Goal) (gs : List Goal) → entry_word F place g.answer_terms ≡ none → (z : ℤ) → add_to z (column_words F place (g ∷ gs)) ≡ none
   unfolding column_words read_all read_next add_to
   sum-none g gs e z = ap (λ o. add_to z (read_next o (column_words F place gs))) e
 

@@ -32,7 +32,7 @@ SomeGoals list n = (gs : List Goal) × GoalsAt list gs × (length gs ≡ n)
 -- It begins with answers, each of which has a term at the place.
 pub record ColumnAt (symbols list : List ℕ) (gs : List Goal) (place : ℕ) : Type 0 where
   pub answers : AnswersAt symbols list gs
-  pub inside : All (λ g. place < count g.answers) gs
+  pub inside : All (λ g. place < count g.answer_terms) gs
 
 abbrev pub SomeAnswers : List ℕ → List ℕ → ℕ → ℕ → Type 0
 SomeAnswers deck_words list n place = (d : Deck) × (gs : List Goal) × (open_deck deck_words ≡ accepted d) × ColumnAt (symbol_words deck_words) list gs place × (length gs ≡ n)

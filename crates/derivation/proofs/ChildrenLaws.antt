@@ -38,9 +38,9 @@ matchings-one N ts c cs = refl
 -- With as many variables in the goal as n, by the clauses that the literal tries.
 pub resolvents-by :
     (clauses : List Clause) (g : Goal) (before : List Literal) (p : ℕ) (ts : Terms) (after : List Literal) (n : ℕ) → n ≡ top_goal g
-    → resolvents clauses g before p ts after ≡ collect (resolvent n g.answers before ts after) (tried ts (clauses_about p clauses))
+    → resolvents clauses g before p ts after ≡ collect (resolvent n g.answer_terms before ts after) (tried ts (clauses_about p clauses))
 resolvents-by clauses g before p ts after n e =
-    tried-resolvents clauses g before p ts after ∙ ap (λ m. collect (resolvent m g.answers before ts after) (tried ts (clauses_about p clauses))) (sym e)
+    tried-resolvents clauses g before p ts after ∙ ap (λ m. collect (resolvent m g.answer_terms before ts after) (tried ts (clauses_about p clauses))) (sym e)
 
 pub sum_by : (d : Deck) (g : Goal) (p : ℕ) (ts : Terms) (n : ℕ) → n ≡ top_goal g → sum_of d g p ts ≡ matchings n ts (tried ts (clauses_about p d.clauses))
 sum_by d g p ts n e = ap (λ m. matchings m ts (tried ts (clauses_about p d.clauses))) (sym e)
@@ -55,7 +55,7 @@ pub calls-kept :
 calls-kept {ar} {cells₀} {call} {S = S} {g = g} cells k c =
     record {
       inside = kept-inside cells cells₀ call.len k c.inside;
-      goal = subst (λ (cs : List ℕ). GoalCells ar cs call.answers S g) (sym k) c.goal;
+      goal = subst (λ (cs : List ℕ). GoalCells ar cs call.answer_cells S g) (sym k) c.goal;
       literals = c.literals;
       span = c.span;
       fresh = c.fresh;

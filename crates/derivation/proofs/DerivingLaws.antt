@@ -34,16 +34,16 @@ pub turned : (a b : ℕ) (s : List ℕ) → a ≤ b → put_mid a (b - a) s (rev
 turned a b s h = let e : a + (b - a) ≡ b = omega arith in rw (drop-drop (b - a) a s, e)
 
 -- What the code's numbers satisfy.
-pub record Numbers (store cells : List ℕ) (held size answers : ℕ) : Type 0 where
+pub record Numbers (store cells : List ℕ) (held size answer_cells : ℕ) : Type 0 where
   pub low : size + 2 ≤ held
   pub inside : held ≤ length store
   pub short : size ≤ 1022
-  pub few : answers ≤ 1024
+  pub few : answer_cells ≤ 1024
   pub room : size ≤ length cells
 
 module _
-    {ws store cells : List ℕ} {held size answers s e : ℕ} {d : Deck} {g : Goal} {gs : List Goal} {before : List Literal} {p : ℕ} {ts : Terms} {after : List Literal}
-    (x : Deriving ws store cells held size answers s e d g gs before p ts after) where
+    {ws store cells : List ℕ} {held size answer_cells s e : ℕ} {d : Deck} {g : Goal} {gs : List Goal} {before : List Literal} {p : ℕ} {ts : Terms} {after : List Literal}
+    (x : Deriving ws store cells held size answer_cells s e d g gs before p ts after) where
   -- Where the goal begins.
   abbrev base : ℕ
   base = held - 2 - size
@@ -59,7 +59,7 @@ module _
         goal-length (marked pending g),
       )
 
-  pub numbers : Numbers store cells held size answers
+  pub numbers : Numbers store cells held size answer_cells
   unfolding goal_words
   numbers =
       let short = x.holding.well_formed.0.short in
@@ -72,17 +72,17 @@ module _
       }
 
   pub tries : (n : ℕ) (first : Option ℕ) → n ≡ top_goal g → first ≡ leading_symbol ts
-      → Tries ws cells (record { call = record { len = size; answers = answers; s = s; e = e }; n = n; first = first }) d g before p ts after
+      → Tries ws cells (record { call = record { len = size; answer_cells = answer_cells; s = s; e = e }; offset = n; first = first }) d g before p ts after
   tries n first q r =
       let c = x.calls in
       record { opens = x.opens; calls = record { inside = c.inside; goal = c.goal; literals = c.literals; span = c.span; fresh = q }; first = r }
 
   -- The goal's cells alone.
-  pub row-calls : (ar row : List ℕ) → ar ≡ symbol_words ws → row ≡ take size cells → Calls ar row (record { len = size; answers = answers; s = s; e = e }) (top_goal g) d.symbols g before p ts after
+  pub row-calls : (ar row : List ℕ) → ar ≡ symbol_words ws → row ≡ take size cells → Calls ar row (record { len = size; answer_cells = answer_cells; s = s; e = e }) (top_goal g) d.symbols g before p ts after
   row-calls ar row q r = rw (q, r) (calls-kept (take size cells) (take-take size size cells (omega arith)) x.calls)
 
   -- The first goal's words, and those of the others.
-  first-words : write_goal (marked pending g) ≡ (size + 2) ∷ answers ∷ take size cells
+  first-words : write_goal (marked pending g) ≡ (size + 2) ∷ answer_cells ∷ take size cells
   unfolding write_goal mark_number
   first-words =
       let w : goal_words g + 4096 * mark_number pending ≡ size + 2 = omega (arith, x.sized) in
@@ -120,7 +120,7 @@ module _
 
   -- The goal is written back.
   abbrev back : List ℕ → List ℕ → List ℕ
-  back store₁ words = sets store₁ (held - 2 - length words) (reverse ((length words + 2) ∷ answers ∷ words))
+  back store₁ words = sets store₁ (held - 2 - length words) (reverse ((length words + 2) ∷ answer_cells ∷ words))
 
   module _ (store₁ cells₁ : List ℕ) (kept : take base store₁ ≡ take base store) (same : take size cells₁ ≡ take size cells) (long : length store₁ ≡ length store) where
     restored : take held (back store₁ (take size cells₁)) ≡ take held store
@@ -164,7 +164,7 @@ module _
         inside = omega (arith, length-rev store₁ base end b);
         well_formed =
             all_append (WfGoal d.symbols) ds gs
-            (resolvents-wf d.symbols d.clauses (opened-written ws d x.opens).1.clauses g (record { answers = goal.answers; literals = goal.literals }) before p ts after
+            (resolvents-wf d.symbols d.clauses (opened-written ws d x.opens).1.clauses g (record { answer_terms = goal.answer_terms; literals = goal.literals }) before p ts after
             x.calls.literals v.0)
             x.holding.well_formed.1;
         words = rw all (children-on store₁ cs (write_goals (unmarked gs)) base end rest-length n (v.2 (omega arith) ∙ rw rest-words)).0;

@@ -29,12 +29,12 @@ unfolding goal_cells
 literal-cell {cells = cells} {call = call} {g = g} {before = before} {p = p} {ts = ts} {after = after} r =
     let s = call.s in
     let size = call.len in
-    let front = write_terms g.answers [] ++ write_literals before in
+    let front = write_terms g.answer_terms [] ++ write_literals before in
     let rest = write_terms ts (write_literals after) in
     let whole : take size cells ≡ front ++ (p ∷ rest) =
-    r.goal.goal ∙ rw (r.literals, write-append g.answers (write_literals (before ++ (pos p ts ∷ after))), write_literals-append before (pos p ts ∷ after)) (simp append_assoc) in
+    r.goal.goal ∙ rw (r.literals, write-append g.answer_terms (write_literals (before ++ (pos p ts ∷ after))), write_literals-append before (pos p ts ∷ after)) (simp append_assoc) in
     let long : length front ≡ s =
-    length-append (write_terms g.answers []) (write_literals before) ∙ omega (arith, terms-length g.answers [], literals-length before, r.span.start) in
+    length-append (write_terms g.answer_terms []) (write_literals before) ∙ omega (arith, terms-length g.answer_terms [], literals-length before, r.span.start) in
     let h : s < size = omega (arith, ap length whole, length-take-le size cells r.inside, length-append front (p ∷ rest)) in
     (h, sym (get_or-take size cells s 0 h) ∙ ap (λ (l : List ℕ). get_or l s 0) whole ∙ get_or_at front p rest 0 s long)
 

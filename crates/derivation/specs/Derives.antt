@@ -24,7 +24,7 @@ use Rattle.derivation.specs.declared.Derived.{Derived}
 -- around it.
 pub record Tries (deck_words cells : List ℕ) (a : Attempt) (d : Deck) (g : Goal) (before : List Literal) (p : ℕ) (ts : Terms) (after : List Literal) : Type 0 where
   pub opens : open_deck deck_words ≡ accepted d
-  pub calls : Calls (symbol_words deck_words) cells a.call a.n d.symbols g before p ts after
+  pub calls : Calls (symbol_words deck_words) cells a.call a.offset d.symbols g before p ts after
   pub first : a.first ≡ leading_symbol ts
 
 -- There are such a deck, goal and literal: for a `requires`, which cannot quantify over what the rules have.
@@ -48,7 +48,7 @@ abbrev pub AttemptsClause : List ℕ → List ℕ → Attempt → ℕ → ℕ �
 AttemptsClause deck_words cells a i left child r =
     (d : Deck) (g : Goal) (before : List Literal) (p : ℕ) (ts : Terms) (after : List Literal) (c : Clause)
     → Tries deck_words cells a d g before p ts after → ClauseAt d.clauses i c
-    → IsAttempt (resolvent a.n g.answers before ts after c) (equations_of a.n ts c) left child r
+    → IsAttempt (resolvent a.offset g.answer_terms before ts after c) (equations_of a.offset ts c) left child r
 
 -- The equations that the clauses take that the literal tries.
 abbrev pub sum_of : Deck → Goal → ℕ → Terms → ℕ
@@ -96,14 +96,14 @@ WritesChildren deck_words cells a store base left store' r =
     → Writes store base (resolvents d.clauses g before p ts after) (sum_of d g p ts) left store' r
 
 -- The first goal held is g, and its `size` cells stand at the start of `cells`.
-pub record Deriving (deck_words store cells : List ℕ) (held size answers s e : ℕ) (d : Deck) (g : Goal) (gs : List Goal) (before : List Literal) (p : ℕ) (ts : Terms) (after : List Literal) : Type 0 where
+pub record Deriving (deck_words store cells : List ℕ) (held size answer_cells s e : ℕ) (d : Deck) (g : Goal) (gs : List Goal) (before : List Literal) (p : ℕ) (ts : Terms) (after : List Literal) : Type 0 where
   pub opens : open_deck deck_words ≡ accepted d
   pub holding : Holding d.symbols store held (g ∷ gs)
   pub sized : goal_words g ≡ size + 2
-  pub calls : Calls (symbol_words deck_words) cells (record { len = size; answers = answers; s = s; e = e }) (top_goal g) d.symbols g before p ts after
+  pub calls : Calls (symbol_words deck_words) cells (record { len = size; answer_cells = answer_cells; s = s; e = e }) (top_goal g) d.symbols g before p ts after
 
 -- There are such a deck, such goals and such a literal: for a `requires`, which cannot quantify over what the rules have.
-pub record SomeDeriving (deck_words store cells : List ℕ) (held size answers s e : ℕ) : Type 0 where
+pub record SomeDeriving (deck_words store cells : List ℕ) (held size answer_cells s e : ℕ) : Type 0 where
   pub deck : Deck
   pub first : Goal
   pub goals : List Goal
@@ -111,7 +111,7 @@ pub record SomeDeriving (deck_words store cells : List ℕ) (held size answers s
   pub predicate : ℕ
   pub terms : Terms
   pub after : List Literal
-  pub is : Deriving deck_words store cells held size answers s e deck first goals before predicate terms after
+  pub is : Deriving deck_words store cells held size answer_cells s e deck first goals before predicate terms after
 
 -- With the derived goals ds: they replace the goal; or one is oversized, and the store's goals are as they were.
 abbrev pub DerivesTo : List Symbol → List ℕ → ℕ → List Goal → List Goal → List ℕ → Option ℕ → Type 0
@@ -129,7 +129,7 @@ Derives S store held gs ds cost left store' (Err stops.Finished) = ⊥
 
 -- Whatever goal is held first, and whatever literal of it the numbers are of: the step on that literal.
 abbrev pub DerivesCall : List ℕ → List ℕ → List ℕ → ℕ → ℕ → ℕ → ℕ → ℕ → ℕ → List ℕ → Result Derived Stop → Type 0
-DerivesCall deck_words store cells held size answers s e left store' r =
+DerivesCall deck_words store cells held size answer_cells s e left store' r =
     (d : Deck) (g : Goal) (gs : List Goal) (before : List Literal) (p : ℕ) (ts : Terms) (after : List Literal)
-    → Deriving deck_words store cells held size answers s e d g gs before p ts after
+    → Deriving deck_words store cells held size answer_cells s e d g gs before p ts after
     → Derives d.symbols store held gs (resolvents d.clauses g before p ts after) (selected_cost d.clauses g (positive before p ts after)) left store' r

@@ -28,7 +28,7 @@ pub struct Derived {
 #[derive(Clone, Copy)]
 struct Attempt {
     call: Call,
-    n: usize,
+    offset: usize,
     first: Option<u16>,
 }
 
@@ -43,26 +43,30 @@ pub fn derive(
     left: u32,
     work: &mut Workspace,
 ) -> Result<Derived, Stop>
-    requires some_deriving { SomeDeriving clauses.now.deck.words.now store.old work.old.cells.now held call.len call.answers call.s call.e }
+    requires some_deriving { SomeDeriving clauses.now.deck.words.now store.old work.old.cells.now held call.len call.answer_cells call.s call.e }
     requires left { 0 < left }
-    ensures derives { DerivesCall clauses.now.deck.words.now store.old work.old.cells.now held call.len call.answers call.s call.e left store.new result }
+    ensures derives { DerivesCall clauses.now.deck.words.now store.old work.old.cells.now held call.len call.answer_cells call.s call.e left store.new result }
 {
     let base = held - 2 - call.len;
     let cells = work.goal(call.len);
-    let n = variables(cells);
+    let offset = variables(cells);
     let first = call.first_symbol(clauses.symbols(), cells);
-    let attempt = Attempt { call, n, first };
+    let attempt = Attempt {
+        call,
+        offset,
+        first,
+    };
     // Restored in each way out that keeps the goal: a closure for it would hold the store, which is read and written between.
     let Some(derived) = put_children(clauses, store, base, attempt, left - 1, work) else {
-        restore(store, held, work.goal(call.len), call.answers);
+        restore(store, held, work.goal(call.len), call.answer_cells);
         return Err(Stop::Budget);
     };
     let Some(end) = derived.held else {
-        restore(store, held, work.goal(call.len), call.answers);
+        restore(store, held, work.goal(call.len), call.answer_cells);
         return Ok(derived);
     };
     if store.len() < end {
-        restore(store, held, work.goal(call.len), call.answers);
+        restore(store, held, work.goal(call.len), call.answer_cells);
         return Err(Stop::Store);
     }
     store[base..end].reverse();
@@ -155,8 +159,8 @@ fn try_clause(
     if begins_otherwise(attempt.first, clause) {
         return fails_at_once(left);
     }
-    let Attempt { call, n, .. } = attempt;
-    resolve_clause(clauses.symbols(), work, call, n, clause, left)
+    let Attempt { call, offset, .. } = attempt;
+    resolve_clause(clauses.symbols(), work, call, offset, clause, left)
 }
 
 // A unification that fails at its first equation.

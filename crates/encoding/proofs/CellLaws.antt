@@ -16,7 +16,7 @@ use Rattle.text_rules.specs.TextWords.{Declaration, Use, Entry, number_of, symbo
 use Rattle.text.specs.declared.tokens.Kind.TheVariants.{Variable}
 use Rattle.text.specs.declared.tokens.Token.{Token as Scanned}
 use Rattle.text.specs.Kinds.{kind_of}
-use Rattle.text.specs.Scan.{Next}
+use Rattle.text.specs.Scan.{NextToken}
 use Rattle.text.specs.Steps.{option_of}
 use Rattle.text.proofs.ReadLaws.{token_of}
 use Rattle.text.proofs.TokenLaws.{mark-kinds}
@@ -91,7 +91,7 @@ small-first (b ∷ bs) t ts e k = go (is_class space b) refl (small-first bs t t
         let h : kind_number (token_from (class_of b) b bs).kind ≡ 4 = ap (λ t. kind_number t.kind) q ∙ k in
         rw q at (by-class (class_of b) b bs (λ k e. (mark-kinds b k e).0) h)
 
-pub variable-small : (text : List ℕ) (at : ℕ) (r : Scanned) → Next text at r → (v : ℕ) → r.kind ≡ Variable v → v ≤ 1023
+pub variable-small : (text : List ℕ) (at : ℕ) (r : Scanned) → NextToken text at r → (v : ℕ) → r.kind ≡ Variable v → v ≤ 1023
 variable-small text at r n v e = omega (arith, n.variable v e, small-first (drop at text) (token_of text r) _ n.scanned (ap (λ k. kind_number (kind_of k)) e))
 
 -- The number of a name that was looked up.

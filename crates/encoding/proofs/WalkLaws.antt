@@ -13,7 +13,7 @@ use Rattle.text.specs.declared.tokens.Kind.{Kind as Scanned_kind}
 use Rattle.text.specs.declared.tokens.Kind.TheVariants.{Ending, Name, Variable, Dot, Tilde}
 use Rattle.text.specs.declared.tokens.Token.{Token as Scanned}
 use Rattle.text.specs.Kinds.{kind_of}
-use Rattle.text.specs.Scan.{tokens_from, Next}
+use Rattle.text.specs.Scan.{tokens_from, NextToken}
 use Rattle.text.proofs.ReadLaws.{token_of}
 use Rattle.text.proofs.TokenLaws.{not-ending}
 use Rattle.encoding.specs.declared.walk.Entry.{Entry as Given}
@@ -64,7 +64,7 @@ not-variable : (k : Scanned_kind) → ((v : ℕ) → k ≡ Variable v → ⊥) �
 not-variable k f = grind (arith, f)
 
 -- The entries from a place on, by the next token.
-module _ (text : List ℕ) (at : ℕ) (r : Scanned) (n : Next text at r) (b : Kind) where
+module _ (text : List ℕ) (at : ℕ) (r : Scanned) (n : NextToken text at r) (b : Kind) where
   abbrev this : Token
   this = token_of text r
 

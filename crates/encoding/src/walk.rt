@@ -67,7 +67,7 @@ impl<'a> Entries<'a> {
     ghost use Rattle.text_rules.specs.TextWords.{entries};
     ghost use Rattle.text.specs.Kinds.{kind_of};
     ghost use Rattle.text.specs.declared.tokens.Kind.TheVariants.{Ending};
-    ghost use Rattle.text.specs.Scan.{Next};
+    ghost use Rattle.text.specs.Scan.{NextToken};
     ghost use Rattle.encoding.specs.Walk.{entries_left, Gives};
     ghost use Rattle.text_rules.specs.Text.{text_entries};
 
@@ -85,7 +85,7 @@ impl<'a> Entries<'a> {
 
     // The entry that the next token is.
     fn entry(&self, t: Token) -> Option<Entry<'a>>
-        requires next { Next self.now.text.now self.now.at t }
+        requires next { NextToken self.now.text.now self.now.at t }
         requires more { t.kind ≡ Ending → ⊥ }
         ensures { Gives result (entries_left self.now) (entries (kind_of t.kind) (tokens 0 (drop t.to self.now.text.now))) }
     {

@@ -25,7 +25,7 @@ use Rattle.report.specs.Reports.{ending_of, advance_of, counted_of}
 use Rattle.report.specs.declared.Advance.{Advance}
 use Rattle.report.specs.declared.Advance.TheVariants.{Stepped, Prevented}
 use Rattle.report.specs.declared.Pressed.{Pressed}
-use Rattle.top_level.specs.Top.{opening, Topped, of_press}
+use Rattle.top_level.specs.Top.{opening, TopLevelEnds, of_press}
 use Rattle.evaluation.specs.Results.{slices, CarriedAs}
 use Rattle.evaluation.specs.Displays.{finished_press, pressed_of}
 use Rattle.deck.proofs.RefusalLaws.{number-accepts, number-refuses}
@@ -34,7 +34,7 @@ use Rattle.evaluation.proofs.CarryLaws.{carried-sizes}
 -- What a press leaves, from the goals gs pending and ms parked, in a store of so many words. It asks of the store only how long it is.
 abbrev pub PressTops : Deck → ℕ → List ℕ → List Goal → List Marked → ℕ → List ℕ → List ℕ → Pressed → Type 0
 PressTops d store_size answers gs ms total answers' store' r =
-    Topped (press_level d.clauses (length answers) store_size (opening gs ms) (rules.opening total)) (ending_of r.advance) answers total answers' store' (of_press r)
+    TopLevelEnds (press_level d.clauses (length answers) store_size (opening gs ms) (rules.opening total)) (ending_of r.advance) answers total answers' store' (of_press r)
 
 pub press-as : (d : Deck) (gs : List Goal) (ms : List Marked) (r : Pressed) {n m total : ℕ} {answers answers' store' : List ℕ} → n ≡ m
     → PressTops d n answers gs ms total answers' store' r → PressTops d m answers gs ms total answers' store' r

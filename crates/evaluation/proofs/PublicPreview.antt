@@ -1,6 +1,6 @@
 -- What the contract of `preview` says (document 02, U11). Of whatever words are passed, and whatever report and words come back, as long as they meet
 -- what the contract ensures (its reading `Post`): it is a run on the lengthened copy. So demand 3 holds of it, no goal flounders and no answer has a
--- variable, levels bound its own, and closed sites stay closed, each with the copy as the deck, which is the deck with the clause at its end.
+-- variable, no level goes deeper than the copy's levels allow, and closed sites stay closed, each with the copy as the deck, which is the deck with the clause at its end.
 use Prim.Native.Nat.{ℕ, ◌+◌, ◌≤◌}
 use mathlib.Core.Path.{◌≡◌}
 use mathlib.Core.Bool.{true}

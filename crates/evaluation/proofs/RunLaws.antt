@@ -26,7 +26,7 @@ use Rattle.deck.specs.Answers.{number_of, refusal_for}
 use Rattle.deck.proofs.RefusalLaws.{refused-number, number-accepts, number-refuses}
 use Rattle.report.specs.Reports.{stop_of as stop_of'}
 use Rattle.report.specs.declared.Report.{Report}
-use Rattle.top_level.specs.Top.{Queries, opening, Topped, of_report}
+use Rattle.top_level.specs.Top.{Queries, opening, TopLevelEnds, of_report}
 use Rattle.rules.specs.Goals.{Marked}
 use Rattle.rules.specs.Syntax.{Goal}
 use Rattle.evaluation.specs.Results.{check_fresh, result_of, slices}
@@ -198,7 +198,7 @@ gives-refused c s why r = record { returns = sym (ap returned r); leaves = subst
 -- What level 0's run leaves, from the goals gs pending and ms parked, in a store of so many words.
 abbrev pub RunTops : Deck → ℕ → List ℕ → List Goal → List Marked → ℕ → List ℕ → List ℕ → Report → Type 0
 RunTops d store_size answers gs ms total answers' store' r =
-    Topped (evaluate_level d.clauses (length answers) store_size 32 zeroth (opening gs ms) (rules.opening total)) (stopped (stop_of' r.stop)) answers total answers' store' (of_report r)
+    TopLevelEnds (evaluate_level d.clauses (length answers) store_size 32 zeroth (opening gs ms) (rules.opening total)) (stopped (stop_of' r.stop)) answers total answers' store' (of_report r)
 
 -- It asks of the store at its start only how long it is.
 pub topped-as : (d : Deck) (gs : List Goal) (ms : List Marked) (r : Report) {n m total : ℕ} {answers answers' store' : List ℕ} → n ≡ m

@@ -15,13 +15,13 @@ use Rattle.goals.specs.Store.{Holding}
 
 -- The words of a pending goal.
 abbrev pub pending_words : Goal → List ℕ
-pending_words g = goal_words g ∷ sizes g.answers ∷ goal_cells g
+pending_words g = goal_words g ∷ sizes g.answer_terms ∷ goal_cells g
 
 pub goals-first : (g : Goal) (gs : List Goal) → write_goals (unmarked (g ∷ gs)) ≡ pending_words g ++ write_goals (unmarked gs)
 unfolding write_goals write_goal mark_number
 goals-first g gs =
     let e : goal_words g + 4096 * 0 ≡ goal_words g = omega arith in
-    ap (λ (w : ℕ). w ∷ (sizes g.answers ∷ (goal_cells g ++ write_goals (unmarked gs)))) e
+    ap (λ (w : ℕ). w ∷ (sizes g.answer_terms ∷ (goal_cells g ++ write_goals (unmarked gs)))) e
 
 pub cells-length : (g : Goal) → goal_words g ≡ 2 + length (goal_cells g)
 unfolding goal_words
@@ -54,7 +54,7 @@ module _ {S : List Symbol} {store : List ℕ} {held : ℕ} {g : Goal} {gs : List
       ap (λ (n : ℕ). get_or store n 0) (sym i)
       ∙ read_word store (pending_words g ++ write_goals (unmarked gs)) held 0 h.inside first-words (omega (arith, first-inside, first-least))
 
-  pub first-answers : get_or store (held - 2) 0 ≡ sizes g.answers
+  pub first-answers : get_or store (held - 2) 0 ≡ sizes g.answer_terms
   first-answers =
       let i : held - 1 - 1 ≡ held - 2 = omega arith in
       ap (λ (n : ℕ). get_or store n 0) (sym i)
@@ -70,7 +70,7 @@ module _ {S : List Symbol} {store : List ℕ} {held : ℕ} {g : Goal} {gs : List
 
   pub first-cells : (n : ℕ) → n + 2 ≡ goal_words g → take n (reverse (take (held - 2) store)) ≡ goal_cells g
   first-cells n e =
-      let b = below-first store (goal_words g ∷ sizes g.answers ∷ []) (goal_cells g ++ write_goals (unmarked gs)) held 2 h.inside refl first-words in
+      let b = below-first store (goal_words g ∷ sizes g.answer_terms ∷ []) (goal_cells g ++ write_goals (unmarked gs)) held 2 h.inside refl first-words in
       ap (λ (l : List ℕ). take n (reverse l)) b
       ∙ ap (take n) (reverse-reverse (goal_cells g ++ write_goals (unmarked gs)))
       ∙ take_at (goal_cells g) (write_goals (unmarked gs)) n (omega (arith, cells-length g))

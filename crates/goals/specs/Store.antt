@@ -38,7 +38,7 @@ words_without store held s e =
 
 -- The new level's goal for the atom p(ts).
 abbrev pub atom_goal : ℕ → Terms → Goal
-atom_goal p ts = record { answers = nil; literals = pos p ts ∷ [] }
+atom_goal p ts = record { answer_terms = nil; literals = pos p ts ∷ [] }
 
 -- The marks of the code as those of the rules.
 abbrev pub mark_of : declared.Mark → Mark

@@ -42,14 +42,14 @@ impl From<Mark> for u16 {
     }
 }
 
-// Writes the goal of these cells, `answers` of them its answer terms, so that it ends where the words held end.
-pub fn restore(store: &mut [u16], held: usize, cells: &[u16], answers: usize)
-    requires { (length cells.now + 2 ≤ held) × (held ≤ length store.old) × (length cells.now ≤ 1022) × (answers ≤ 1024) }
-    ensures { store.new ≡ sets store.old (held - 2 - length cells.now) (reverse ((length cells.now + 2) ∷ answers ∷ cells.now)) }
+// Writes the goal of these cells, `answer_cells` of them its answer terms, so that it ends where the words held end.
+pub fn restore(store: &mut [u16], held: usize, cells: &[u16], answer_cells: usize)
+    requires { (length cells.now + 2 ≤ held) × (held ≤ length store.old) × (length cells.now ≤ 1022) × (answer_cells ≤ 1024) }
+    ensures { store.new ≡ sets store.old (held - 2 - length cells.now) (reverse ((length cells.now + 2) ∷ answer_cells ∷ cells.now)) }
 {
     let n = cells.len();
     words::mirror(cells, &mut store[held - 2 - n..held - 2]);
-    store[held - 2] = answers as u16;
+    store[held - 2] = answer_cells as u16;
     store[held - 1] = (n + 2) as u16;
 }
 

@@ -20,15 +20,15 @@ abbrev pub numbers_of : Report → Numbers
 numbers_of r = numbers (stop_number r.stop) r.steps r.cost r.answers r.pending r.parked
 
 -- A refusal returns its number and leaves the numbers as they were; else 0 is returned and the numbers are the report's.
-abbrev pub Tells : Checked Report → Numbers → ℕ → Numbers → Type 0
-Tells (refused n) before r after = (r ≡ refusal_number n) × (after ≡ before)
-Tells (accepted report) before r after = (r ≡ 0) × (after ≡ numbers_of report)
+abbrev pub TellsRun : Checked Report → Numbers → ℕ → Numbers → Type 0
+TellsRun (refused n) before r after = (r ≡ refusal_number n) × (after ≡ before)
+TellsRun (accepted report) before r after = (r ≡ 0) × (after ≡ numbers_of report)
 
 -- A call for what the checks and the evaluation come to.
 pub record Calls (c : Checked Outcome) (entry : Slices) (before : Numbers) (r : ℕ) (exit : Slices) (after : Numbers) : Type 0 where
   pub result : Checked Report
   pub gives : Gives c entry result exit
-  pub tells : Tells result before r after
+  pub tells : TellsRun result before r after
 
 -- The calls for a run, for one that carries on, and for a preview.
 abbrev pub Called : List ℕ → List ℕ → List ℕ → ℕ → Slices → Numbers → ℕ → Slices → Numbers → Type 0

@@ -5,7 +5,7 @@ ghost use Rattle.std.specs.Prelude.{◌≡◌};
 ghost use Rattle.rules.specs.Refusals.{checked_number};
 ghost use Rattle.rules.specs.Decks.{open_deck, check_query};
 ghost use Rattle.evaluation.specs.Results.{result_of, slices};
-ghost use Rattle.leads_c.specs.Calls.{Called, CalledOn, PreviewCalled, Tells, numbers};
+ghost use Rattle.leads_c.specs.Calls.{Called, CalledOn, PreviewCalled, TellsRun, numbers};
 ghost use Rattle.leads_c.specs.TextCalls.{ReadCalled, WriteCalled};
 ghost use Rattle.leads_c.specs.DrillCalls.{DrillCalled};
 ghost use Rattle.leads_c.specs.LevelCalls.{LevelsCalled, circular_number};
@@ -123,7 +123,7 @@ fn told(
     pending: &mut u32,
     parked: &mut u32,
 ) -> u32
-    ensures { Tells (result_of ran) (numbers stop.old steps.old cost.old answer_count.old pending.old parked.old) result (numbers stop.new steps.new cost.new answer_count.new pending.new parked.new) }
+    ensures { TellsRun (result_of ran) (numbers stop.old steps.old cost.old answer_count.old pending.old parked.old) result (numbers stop.new steps.new cost.new answer_count.new pending.new parked.new) }
 {
     match ran {
         Ok(report) => {

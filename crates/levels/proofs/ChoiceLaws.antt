@@ -33,7 +33,7 @@ pub record Positive (g : Goal) (s e : ℕ) : Type 0 where
   pub terms : Terms
   pub after : List Literal
   pub selects : select g.literals ≡ positive before predicate terms after
-  pub span : Spans g.answers before (pos predicate terms) s e
+  pub span : Spans g.answer_terms before (pos predicate terms) s e
 
 pub record Negative (g : Goal) (s e : ℕ) : Type 0 where
   pub before : List Literal
@@ -41,7 +41,7 @@ pub record Negative (g : Goal) (s e : ℕ) : Type 0 where
   pub terms : Terms
   pub after : List Literal
   pub selects : select g.literals ≡ negative before predicate terms after
-  pub span : Spans g.answers before (neg predicate terms) s e
+  pub span : Spans g.answer_terms before (neg predicate terms) s e
 
 module _ (g : Goal) where
   chosen-nothing : (c : Selection) → Selects g c selected.Nothing → c ≡ nothing
@@ -72,7 +72,7 @@ module _ (g : Goal) where
 -- THE GOAL'S CELLS, copied to the start of `row`; its length and the number of its answer-term cells read.
 pub record Copied (store : List ℕ) (held w a : ℕ) (row : List ℕ) : Type 0 where
   pub words : w ≡ get_or store (held - 1) 0
-  pub answers : a ≡ get_or store (held - 2) 0
+  pub answer_cells : a ≡ get_or store (held - 2) 0
   pub long : w ≤ length row
   pub cells : take (w - 2) row ≡ take (w - 2) (reverse (take (held - 2) store))
 
@@ -89,7 +89,7 @@ copied {store = store} {held} h row image w a q r l e =
     (omega (arith, length-reverse (take (held - 2) store), length-take-le (held - 2) store (omega arith))) in
     record {
       words = q;
-      answers = r;
+      answer_cells = r;
       long = omega (arith, length-append image (drop (w - 2) row), length-drop (w - 2) row);
       cells = take_at image (drop (w - 2) row) (w - 2) n ∙ i;
     }
@@ -107,7 +107,7 @@ module _ (deck_words : List ℕ) {store row : List ℕ} {held w a : ℕ} (c : Co
     symbols = rw p (steps-open deck_words d o).symbols;
     well_formed = h.well_formed.0;
     goal = rw q row-cells;
-    wide = c.answers ∙ first-answers h;
+    wide = c.answer_cells ∙ first-answers h;
   }
 
   pub to-derive : (s e : ℕ) (k : Positive g s e) → Deriving deck_words store row held (w - 2) a s e d g gs k.before k.predicate k.terms k.after
@@ -146,10 +146,10 @@ module _ {deck_words store row : List ℕ} {held s e : ℕ} {d : Deck} {g : Goal
   to-ask l =
       let span = n.negates.span in
       let w = n.negates.holding.well_formed.0 in
-      let A = cells_before g.answers before in
+      let A = cells_before g.answer_terms before in
       let L = write_literal (neg p ts) [] in
       let B = write_literals after in
-      let na : length A ≡ s = before-length g.answers before ∙ sym span.start in
+      let na : length A ≡ s = before-length g.answer_terms before ∙ sym span.start in
       let nl : length L ≡ e - s = literal-length (neg p ts) ∙ omega (arith, span.end) in
       let around = cells-around g before (neg p ts) after chosen.0 in
       let all = ap length around ∙ length-append A (L ++ B) in

@@ -17,7 +17,7 @@ use Rattle.report.specs.Reports.{stop_of}
 use Rattle.report.specs.declared.Stop.{Stop}
 use Rattle.report.specs.declared.Stop.TheVariants.{Finished, Budget, Answers, Store}
 use Rattle.goals.specs.Store.{Holding, SomeFirst, mark_of}
-use Rattle.levels.specs.Levels.{account_of, paid_one, Later, Stands, Onward, Turned, verdict_for, finished_by, Replied}
+use Rattle.levels.specs.Levels.{account_of, paid_one, Later, LevelHolds, Onward, Turned, verdict_for, finished_by, Replied}
 use Rattle.std.specs.Prelude.{Result, Ok, Err}
 use Rattle.goals.specs.declared.Mark as declared
 use Rattle.levels.specs.declared.Account.{Account}
@@ -111,7 +111,7 @@ module _ {d : Deck} {below room : ℕ} {gs : List Goal} {a₀ : Account} {store 
     Took store' t = (g : Goal) (hs : List Goal) → Holding d.symbols store held (g ∷ hs) → Turned d below store held a g hs store' t
 
     stands : (store_size outer : ℕ) → outer + room ≡ store_size
-        → Stands (deeper outer) (level_of r.pending r.aside) (first.first ∷ first.rest) (length store) store_size
+        → LevelHolds (deeper outer) (level_of r.pending r.aside) (first.first ∷ first.rest) (length store) store_size
     stands store_size outer f = record { pending = first.same; room = omega (arith, r.size) }
 
     -- The evaluation goes on from the changed level.

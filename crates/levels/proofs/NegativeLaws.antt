@@ -34,30 +34,30 @@ literal-length (neg p ts) = omega (arith, terms-length ts [])
 
 -- The cells before a literal.
 abbrev pub cells_before : Terms → List Literal → List ℕ
-cells_before answers before = write_terms answers [] ++ write_literals before
+cells_before answer_terms before = write_terms answer_terms [] ++ write_literals before
 
-pub before-length : (answers : Terms) (before : List Literal) → length (cells_before answers before) ≡ sizes answers + literal_sizes before
-before-length answers before =
-    length-append (write_terms answers []) (write_literals before) ∙ omega (arith, terms-length answers [], literals-length before)
+pub before-length : (answer_terms : Terms) (before : List Literal) → length (cells_before answer_terms before) ≡ sizes answer_terms + literal_sizes before
+before-length answer_terms before =
+    length-append (write_terms answer_terms []) (write_literals before) ∙ omega (arith, terms-length answer_terms [], literals-length before)
 
-goal-cells : (answers : Terms) (before others : List Literal)
-    → goal_cells (record { answers = answers; literals = before ++ others }) ≡ cells_before answers before ++ write_literals others
+goal-cells : (answer_terms : Terms) (before others : List Literal)
+    → goal_cells (record { answer_terms = answer_terms; literals = before ++ others }) ≡ cells_before answer_terms before ++ write_literals others
 unfolding goal_cells
-goal-cells answers before others =
-    write-append answers (write_literals (before ++ others))
-    ∙ ap (write_terms answers [] ++◌) (write_literals-append before others)
-    ∙ sym (append_assoc (write_terms answers []) (write_literals before) (write_literals others))
+goal-cells answer_terms before others =
+    write-append answer_terms (write_literals (before ++ others))
+    ∙ ap (write_terms answer_terms [] ++◌) (write_literals-append before others)
+    ∙ sym (append_assoc (write_terms answer_terms []) (write_literals before) (write_literals others))
 
 module _ (g : Goal) (before : List Literal) (l : Literal) (after : List Literal) (e : g.literals ≡ before ++ (l ∷ after)) where
-  pub cells-around : goal_cells g ≡ cells_before g.answers before ++ (write_literal l [] ++ write_literals after)
+  pub cells-around : goal_cells g ≡ cells_before g.answer_terms before ++ (write_literal l [] ++ write_literals after)
   cells-around =
-      ap (λ ls. goal_cells (record { answers = g.answers; literals = ls })) e
-      ∙ goal-cells g.answers before (l ∷ after)
-      ∙ ap (cells_before g.answers before ++◌) (literal-cells l (write_literals after))
+      ap (λ ls. goal_cells (record { answer_terms = g.answer_terms; literals = ls })) e
+      ∙ goal-cells g.answer_terms before (l ∷ after)
+      ∙ ap (cells_before g.answer_terms before ++◌) (literal-cells l (write_literals after))
 
   -- The goal without the literal.
   abbrev pub without_literal : Goal
-  without_literal = record { answers = g.answers; literals = before ++ after }
+  without_literal = record { answer_terms = g.answer_terms; literals = before ++ after }
 
   without-words : goal_words without_literal + suc (sizes (arguments l)) ≡ goal_words g
   without-words =
@@ -70,47 +70,47 @@ module _ (g : Goal) (before : List Literal) (l : Literal) (after : List Literal)
         literals-size before (l ∷ after),
       )
 
-  module _ (s e' : ℕ) (span : Spans g.answers before l s e') (rest : List ℕ) where
+  module _ (s e' : ℕ) (span : Spans g.answer_terms before l s e') (rest : List ℕ) where
     -- The words with the cells from s up to e' taken out.
     words-without : let ws = pending_words g ++ rest in
         (goal_words g - (e' - s)) ∷ (take (s + 1) (drop 1 ws) ++ drop (e' + 2) ws) ≡ pending_words without_literal ++ rest
     words-without =
         let ws = pending_words g ++ rest in
-        let A = cells_before g.answers before in
+        let A = cells_before g.answer_terms before in
         let L = write_literal l [] in
         let B = write_literals after in
-        let na : length A ≡ s = before-length g.answers before ∙ sym span.start in
+        let na : length A ≡ s = before-length g.answer_terms before ∙ sym span.start in
         let nl : length L ≡ e' - s = literal-length l ∙ omega (arith, span.end) in
         let cells : goal_cells g ++ rest ≡ A ++ (L ++ (B ++ rest)) = ap (◌++ rest) cells-around ∙ simp append_assoc in
-        let front : take (s + 1) (drop 1 ws) ≡ sizes g.answers ∷ A =
-        ap (λ (r : List ℕ). take (s + 1) (sizes g.answers ∷ r)) cells
-        ∙ take_at (sizes g.answers ∷ A) (L ++ (B ++ rest)) (s + 1) (omega arith) in
+        let front : take (s + 1) (drop 1 ws) ≡ sizes g.answer_terms ∷ A =
+        ap (λ (r : List ℕ). take (s + 1) (sizes g.answer_terms ∷ r)) cells
+        ∙ take_at (sizes g.answer_terms ∷ A) (L ++ (B ++ rest)) (s + 1) (omega arith) in
         let behind : drop (e' + 2) ws ≡ B ++ rest =
-        ap (λ (r : List ℕ). drop (e' + 2) (goal_words g ∷ (sizes g.answers ∷ r))) (cells ∙ sym (append_assoc A L (B ++ rest)))
-        ∙ drop_at (goal_words g ∷ (sizes g.answers ∷ (A ++ L))) (B ++ rest) (e' + 2) (omega (arith, length-append A L, span.end)) in
+        ap (λ (r : List ℕ). drop (e' + 2) (goal_words g ∷ (sizes g.answer_terms ∷ r))) (cells ∙ sym (append_assoc A L (B ++ rest)))
+        ∙ drop_at (goal_words g ∷ (sizes g.answer_terms ∷ (A ++ L))) (B ++ rest) (e' + 2) (omega (arith, length-append A L, span.end)) in
         let words : goal_words g - (e' - s) ≡ goal_words without_literal = omega (arith, without-words, span.end) in
         let others : A ++ (B ++ rest) ≡ goal_cells without_literal ++ rest =
-        sym (append_assoc A B rest) ∙ ap (◌++ rest) (sym (goal-cells g.answers before after)) in
+        sym (append_assoc A B rest) ∙ ap (◌++ rest) (sym (goal-cells g.answer_terms before after)) in
         ap₂ (λ (w : ℕ) (r : List ℕ). w ∷ r) words
-        (ap₂ (λ (x y : List ℕ). x ++ y) front behind ∙ ap (λ (r : List ℕ). sizes g.answers ∷ r) others)
+        (ap₂ (λ (x y : List ℕ). x ++ y) front behind ∙ ap (λ (r : List ℕ). sizes g.answer_terms ∷ r) others)
 
 -- A goal that loses a negative literal without variables.
 pub removed-held : {S : List Symbol} {store store' : List ℕ} {held s e : ℕ} {g : Goal} {gs : List Goal} {before : List Literal} {p : ℕ} {ts : Terms} {after : List Literal}
     → Negates S store held s e g gs before p ts after → length store' ≡ length store
     → take (held - (e - s)) store'
     ≡ reverse ((get_or store (held - 1) 0 - (e - s)) ∷ (take (s + 1) (drop 1 (reverse (take held store))) ++ drop (e + 2) (reverse (take held store))))
-    → Holding S store' (held - (e - s)) (record { answers = g.answers; literals = before ++ after } ∷ gs)
+    → Holding S store' (held - (e - s)) (record { answer_terms = g.answer_terms; literals = before ++ after } ∷ gs)
 removed-held {S} {store} {held = held} {s} {e} {g} {gs} {before} {p} {ts} {after} n l w =
     let h = n.holding in
     let chosen : Selected g.literals (negative before p ts after) = rw n.selects at (select-selected g.literals) in
     let ws = reverse-of store (pending_words g ++ write_goals (unmarked gs)) held (h.words ∙ ap reverse (goals-first g gs)) in
     let same : (get_or store (held - 1) 0 - (e - s)) ∷ (take (s + 1) (drop 1 (reverse (take held store))) ++ drop (e + 2) (reverse (take held store)))
-    ≡ pending_words (record { answers = g.answers; literals = before ++ after }) ++ write_goals (unmarked gs)
+    ≡ pending_words (record { answer_terms = g.answer_terms; literals = before ++ after }) ++ write_goals (unmarked gs)
     = rw (first-length h, ws) (words-without g before (neg p ts) after chosen.0 s e n.span (write_goals (unmarked gs))) in
     record {
       inside = omega (arith, h.inside);
       well_formed = (((wf-kept S [] tt g h.well_formed.0).asks before p ts after chosen.0 chosen.1).1, h.well_formed.1);
-      words = w ∙ ap reverse same ∙ ap reverse (sym (goals-first (record { answers = g.answers; literals = before ++ after }) gs));
+      words = w ∙ ap reverse same ∙ ap reverse (sym (goals-first (record { answer_terms = g.answer_terms; literals = before ++ after }) gs));
     }
   where
     reverse-of : (s ys : List ℕ) (k : ℕ) → take k s ≡ reverse ys → reverse (take k s) ≡ ys
@@ -170,7 +170,7 @@ module _ {cells : List ℕ} {s e : ℕ} {S : List Symbol} {p : ℕ} {ts : Terms}
   asked-wf : WfGoal S (atom_goal p ts)
   unfolding numbered
   asked-wf = record {
-    answers = tt;
+    answer_terms = tt;
     literals = (atom-wf S p ts a.literal, tt);
     in_order = rw a.ground;
     short = a.short;

@@ -15,7 +15,7 @@ use Rattle.rules.proofs.GoalLaws.{marked_words-append}
 use Rattle.rules.proofs.NextLaws.{first-cost}
 use Rattle.rules.proofs.LevelLaws.{level-succeeds, step-halts, step-moves, step-asks, step-unpaid}
 use Rattle.goals.specs.Store.{atom_goal}
-use Rattle.levels.specs.Levels.{outside, Stands, Onward, Halts, Decides}
+use Rattle.levels.specs.Levels.{outside, LevelHolds, Onward, Halts, Decides}
 
 -- WHAT IS DONE WITH A GOAL
 -- A goal with a selected literal has literals.
@@ -170,7 +170,7 @@ module _ (clauses : List Clause) (below room : ℕ) (g : Goal) (gs : List Goal) 
 
   module _ (fits : goal_words g + words_of gs + goal_words (atom_goal p ts) ≤ room) (v : Verdict) (after : Account)
       (says : Decides clauses below (room - (goal_words g + words_of gs)) (atom_goal p ts ∷ []) b v after) where
-    closes : (answer_room store_size : ℕ) (at : Place) (again : Level → Account → Ended) (l : Level) → Stands at l (g ∷ gs) room store_size
+    closes : (answer_room store_size : ℕ) (at : Place) (again : Level → Account → Ended) (l : Level) → LevelHolds at l (g ∷ gs) room store_size
         → one_step clauses answer_room store_size (suc below) at again l a ≡ close again l (question at l g gs p ts others) (reply v after)
     unfolding check_store act_step question decide_by start_level
     closes answer_room store_size at again l s =
@@ -189,7 +189,7 @@ module _ (clauses : List Clause) (below room : ℕ) (g : Goal) (gs : List Goal) 
     unfolding close question
     proves d answer_room store_size at again l s = closes fits succeeds after d answer_room store_size at again l s
 
-    pub disproves : Says fails → Onward clauses (suc below) room (g ∷ gs) a (with_pending (record { answers = g.answers; literals = others } ∷ gs)) after
+    pub disproves : Says fails → Onward clauses (suc below) room (g ∷ gs) a (with_pending (record { answer_terms = g.answer_terms; literals = others } ∷ gs)) after
     unfolding close question
     disproves d answer_room store_size at again l s = closes fits fails after d answer_room store_size at again l s
 

@@ -37,10 +37,10 @@ no-literals : (ls : List Literal) → literal_sizes ls ≡ 0 → ls ≡ []
 no-literals [] e = refl
 no-literals (l ∷ ls) e = absurd (omega arith)
 
-pub answers-only : (g : Goal) → sizes g.answers + 2 ≡ goal_words g → g.literals ≡ []
+pub answers-only : (g : Goal) → sizes g.answer_terms + 2 ≡ goal_words g → g.literals ≡ []
 answers-only g e = no-literals g.literals (omega (arith, goal-words g))
 
-pub more-than-answers : (g : Goal) → (sizes g.answers + 2 ≡ goal_words g → ⊥) → g.literals ≡ [] → ⊥
+pub more-than-answers : (g : Goal) → (sizes g.answer_terms + 2 ≡ goal_words g → ⊥) → g.literals ≡ [] → ⊥
 more-than-answers g n e = n (omega (arith, goal-words g, ap literal_sizes e))
 
 -- What a step leaves of the account.
@@ -186,7 +186,7 @@ module _ (d : Deck) (below : ℕ) {store : List ℕ} {held s e : ℕ} {a : Accou
     omega (arith, k.replied.later.0, k.pays),
     after-later,
     (
-      record { answers = g.answers; literals = before ++ after } ∷ gs,
+      record { answer_terms = g.answer_terms; literals = before ++ after } ∷ gs,
       removed-held n l w,
       disproves d.clauses below (length store) g gs (account_of a) (account_of (paid_one a)) pays p ts (before ++ after) act room (account_of (account_after r)) (rw v at says),
     ),

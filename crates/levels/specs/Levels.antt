@@ -44,20 +44,20 @@ outside rules.zeroth l = marked_words l.parked
 outside (rules.deeper outer) l = outer
 
 -- A level with the pending goals gs that has `words` words for pending goals, in a store of `store_size` words.
-pub record Stands (at : rules.Place) (l : rules.Level) (gs : List Goal) (words store_size : ℕ) : Type 0 where
+pub record LevelHolds (at : rules.Place) (l : rules.Level) (gs : List Goal) (words store_size : ℕ) : Type 0 where
   pub pending : l.pending ≡ gs
   pub room : outside at l + words ≡ store_size
 
 -- Whatever the level, its place and the sizes, and whatever takes over: it takes over from the changed level, one step on.
 abbrev pub Onward : List Clause → ℕ → ℕ → List Goal → rules.Account → (rules.Level → rules.Level) → rules.Account → Type 0
 Onward clauses below room gs a change b =
-    (answer_room store_size : ℕ) (at : rules.Place) (again : rules.Level → rules.Account → rules.Ended) (l : rules.Level) → Stands at l gs room store_size
+    (answer_room store_size : ℕ) (at : rules.Place) (again : rules.Level → rules.Account → rules.Ended) (l : rules.Level) → LevelHolds at l gs room store_size
     → one_step clauses answer_room store_size below at again l a ≡ again (change l) b
 
 -- Whatever they are: the step is not taken, or is cut short, and the level stops as it stands.
 abbrev pub Halts : List Clause → ℕ → ℕ → List Goal → rules.Account → rules.Stop → rules.Account → Type 0
 Halts clauses below room gs a stop b =
-    (answer_room store_size : ℕ) (at : rules.Place) (again : rules.Level → rules.Account → rules.Ended) (l : rules.Level) → Stands at l gs room store_size
+    (answer_room store_size : ℕ) (at : rules.Place) (again : rules.Level → rules.Account → rules.Ended) (l : rules.Level) → LevelHolds at l gs room store_size
     → one_step clauses answer_room store_size below at again l a ≡ rules.ended (rules.stopped stop) l b
 
 -- What a step on g, with gs after it, came to. The first `held` words of the store are as they were unless it goes on with other goals.
@@ -136,7 +136,7 @@ DecidesAtom deck_words row s e below room a r =
 pub record Negates (S : List Symbol) (store : List ℕ) (held s e : ℕ) (g : Goal) (gs : List Goal) (before : List Literal) (p : ℕ) (ts : Terms) (after : List Literal) : Type 0 where
   pub holding : Holding S store held (g ∷ gs)
   pub selects : select g.literals ≡ negative before p ts after
-  pub span : Spans g.answers before (neg p ts) s e
+  pub span : Spans g.answer_terms before (neg p ts) s e
 
 -- There are such goals and such a literal: for a `requires`, which cannot quantify over what the rules have.
 pub record SomeNegates (store : List ℕ) (held s e : ℕ) : Type 0 where

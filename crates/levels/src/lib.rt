@@ -128,23 +128,33 @@ pub fn take_step(
     ensures { TurnsFirst clauses.now.deck.words.now below store.old held account store.new result }
 {
     let length = usize::from(store[held - 1]);
-    let answers = usize::from(store[held - 2]);
+    let answer_cells = usize::from(store[held - 2]);
     let len = length - 2;
-    if answers == len {
+    if answer_cells == len {
         return Ok(Turn::Empty);
     }
     let end = held - 2;
     words::mirror(&store[end - len..end], &mut work.cells[..len]);
-    let selected = select_literal(work.goal(len), clauses.symbols(), answers);
+    let selected = select_literal(work.goal(len), clauses.symbols(), answer_cells);
     match selected {
         Selected::Nothing => Ok(Turn::Park(Mark::Floundered, account.pay_one())),
         Selected::Positive(s, e) => {
-            let call = Call { len, answers, s, e };
+            let call = Call {
+                len,
+                answer_cells,
+                s,
+                e,
+            };
             let derived = derive(clauses, store, held, call, account.left(), work);
             expanded(derived, account)
         }
         Selected::Negative(s, e) => {
-            let call = Call { len, answers, s, e };
+            let call = Call {
+                len,
+                answer_cells,
+                s,
+                e,
+            };
             negate(clauses, below, store, held, call, account, work)
         }
     }

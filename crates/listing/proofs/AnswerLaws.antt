@@ -16,10 +16,10 @@ use Rattle.listing.specs.Standing.{TermsAt}
 use Rattle.listing.specs.Shown.{AnswersAt}
 
 -- An answer's words: its length, the number of its cells, and its cells.
-bare-words : (g : Goal) → g.literals ≡ [] → write_goal (marked pending g) ≡ (2 + sizes g.answers) ∷ sizes g.answers ∷ write_terms g.answers []
+bare-words : (g : Goal) → g.literals ≡ [] → write_goal (marked pending g) ≡ (2 + sizes g.answer_terms) ∷ sizes g.answer_terms ∷ write_terms g.answer_terms []
 unfolding write_goal goal_cells mark_number
 bare-words g b =
-    let n : goal_words g + 4096 * 0 ≡ 2 + sizes g.answers = omega (arith, goal-words g, ap literal_sizes b) in
+    let n : goal_words g + 4096 * 0 ≡ 2 + sizes g.answer_terms = omega (arith, goal-words g, ap literal_sizes b) in
     rw (n, b)
 
 module _ (words list : List ℕ) where
@@ -28,16 +28,16 @@ module _ (words list : List ℕ) where
     pub goal : Goal
     pub others : List Goal
     pub same : gs ≡ goal ∷ others
-    pub word : get_or list 0 0 ≡ 2 + sizes goal.answers
-    pub fits : 2 + sizes goal.answers ≤ length list
-    pub cells : TermsAt words (drop 2 (take (get_or list 0 0) list)) goal.answers
+    pub word : get_or list 0 0 ≡ 2 + sizes goal.answer_terms
+    pub fits : 2 + sizes goal.answer_terms ≤ length list
+    pub cells : TermsAt words (drop 2 (take (get_or list 0 0) list)) goal.answer_terms
     pub after : AnswersAt words (drop (get_or list 0 0) list) others
 
   pub answer-here : (gs : List Goal) → AnswersAt words list gs → (length gs ≡ 0 → ⊥) → AnswerHere gs
   unfolding write_goals
   answer-here [] a h = absurd (h refl)
   answer-here (g ∷ gs) a h =
-      let ts = g.answers in
+      let ts = g.answer_terms in
       let n = sizes ts in
       let more = write_goals (unmarked gs) ++ a.rest in
       let all : list ≡ (2 + n) ∷ n ∷ (write_terms ts [] ++ more) =
@@ -55,7 +55,7 @@ module _ (words list : List ℕ) where
           rest = [];
           read = a.read;
           written = rw (w, two, all) (take_at (write_terms ts []) more n (omega (arith, terms-length ts [])));
-          formed = a.formed.0.answers;
+          formed = a.formed.0.answer_terms;
           small = rw a.bare.0 at (goal-small a.symbols g a.formed.0);
         };
         after = record {
@@ -71,9 +71,9 @@ module _ (words list : List ℕ) where
 -- The answer's words without its two counts are the row of its cells.
 pub row-here :
     {words list : List ℕ} {gs : List Goal} (h : AnswerHere words list gs) {answer : List ℕ} → answer ≡ take (get_or list 0 0) list → let row = take (length answer - 2) (drop 2 answer) in
-    (2 ≤ length answer) × TermsAt words row h.goal.answers × (length row ≡ sizes h.goal.answers)
+    (2 ≤ length answer) × TermsAt words row h.goal.answer_terms × (length row ≡ sizes h.goal.answer_terms)
 row-here {list} h {answer} e =
-    let n : length answer ≡ 2 + sizes h.goal.answers = ap length e ∙ length-take-le (get_or list 0 0) list (omega (arith, h.word, h.fits)) ∙ h.word in
+    let n : length answer ≡ 2 + sizes h.goal.answer_terms = ap length e ∙ length-take-le (get_or list 0 0) list (omega (arith, h.word, h.fits)) ∙ h.word in
     let all : take (length answer - 2) (drop 2 answer) ≡ drop 2 answer = take_all (length answer - 2) (drop 2 answer) (omega (arith, length-drop 2 answer)) in
     (omega arith, rw (all, e) h.cells, omega (arith, ap length all, length-drop 2 answer))
 

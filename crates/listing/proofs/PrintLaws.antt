@@ -91,9 +91,9 @@ unfolding print_answer
 answer-append nil xs rest = sym (append_assoc true_text xs rest)
 answer-append (cons t ts) xs rest = ap (print_term t) (spaced-append ts xs rest) ∙ term-append t (print_spaced ts xs) rest
 
-pub answers-parts : (g : Goal) (gs : List Goal) → print_answers (g ∷ gs) ≡ print_answer g.answers (10 ∷ []) ++ print_answers gs
+pub answers-parts : (g : Goal) (gs : List Goal) → print_answers (g ∷ gs) ≡ print_answer g.answer_terms (10 ∷ []) ++ print_answers gs
 unfolding print_answers
-answers-parts g gs = answer-append g.answers (10 ∷ []) (print_answers gs)
+answers-parts g gs = answer-append g.answer_terms (10 ∷ []) (print_answers gs)
 
 -- A term takes at most 8 bytes a cell: a letter, five digits, its closing bracket and the byte in front of it.
 decimal-rest : (k n : ℕ) (rest : List ℕ) → length (decimal n []) ≤ k → length (decimal n rest) ≤ k + length rest
@@ -139,5 +139,5 @@ module _ (S : List Symbol) where
   answers-short [] w b = (omega arith, omega arith)
   answers-short (g ∷ gs) w b =
       let r = answers-short gs w.1 b.1 in
-      let small : All Small (vars_terms g.answers []) = rw b.0 at (goal-small S g w.0) in
-      (omega (arith, r.0, answer-short g.answers (print_answers gs) w.0.answers small, goal-words g), omega (arith, r.1, goal-words g))
+      let small : All Small (vars_terms g.answer_terms []) = rw b.0 at (goal-small S g w.0) in
+      (omega (arith, r.0, answer-short g.answer_terms (print_answers gs) w.0.answer_terms small, goal-words g), omega (arith, r.1, goal-words g))

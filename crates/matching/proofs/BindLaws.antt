@@ -15,8 +15,8 @@ use Rattle.rules.proofs.TermLaws.{join, ite-yes, ite-no, sub_same, sub-other, su
 use Rattle.matching.specs.Cells.{term_at}
 use Rattle.std.specs.Prelude.{Option, Some, None, unwrap_or, is_none}
 use Rattle.std.proofs.lemmas.List.Sums.{sum_by-cons, sum_by-set, get_or-le-sum_by}
-use Rattle.matching.specs.Bindings.{Places, elims_after, elims, value, later, unbound, Good, Free, Final, State, Checking, Occurs, Blank, Trailed, Ready}
-use Rattle.matching.specs.Outcomes.{eliminated, Ran}
+use Rattle.matching.specs.Bindings.{Places, elims_after, elims, value, later, unbound, Triangular, Free, Final, State, Checking, Occurs, NoBindings, Trailed, Ready}
+use Rattle.matching.specs.Outcomes.{eliminated, UnifiesFrom}
 use Rattle.matching.specs.declared.unify.Outcome.TheVariants.{Unified, Failed}
 use Rattle.matching.proofs.SeenLaws.{open-var}
 use Rattle.matching.proofs.TrailLaws.{absent, later-here, later-there, later-none, later-in, later-out, later-le}
@@ -47,11 +47,11 @@ elims-snoc ar cells bs before [] y = refl
 elims-snoc ar cells bs before (x ∷ xs) y = elims-snoc ar cells bs (join before (bind x (apply before (term_at ar cells (unwrap_or (get_or bs x None) 0))) done)) xs y
 
 -- there is room for a free variable in the trail
-pub free-room : {ar cells : List ℕ} {bs : Places} {trail : List ℕ} {n : ℕ} → Good ar cells bs trail n → {v : ℕ} → Free bs v → n < length trail
+pub free-room : {ar cells : List ℕ} {bs : Places} {trail : List ℕ} {n : ℕ} → Triangular ar cells bs trail n → {v : ℕ} → Free bs v → n < length trail
 free-room {bs = bs} g {v} f = omega (arith, g.counted, g.room, free-here v bs f.inside f.open')
 
 -- the free variable v is bound to the term at p, in which it does not stand
-module _ {ar cells : List ℕ} {bs : Places} {trail : List ℕ} {n : ℕ} (g : Good ar cells bs trail n) {v p : ℕ} (u : Free bs v) (f : Final cells bs p) (away : occ v (value ar cells bs trail n p) ≡ 0) where
+module _ {ar cells : List ℕ} {bs : Places} {trail : List ℕ} {n : ℕ} (g : Triangular ar cells bs trail n) {v p : ℕ} (u : Free bs v) (f : Final cells bs p) (away : occ v (value ar cells bs trail n p) ≡ 0) where
   bind-room : n < length trail
   bind-room = free-room g u
 
@@ -157,8 +157,8 @@ module _ {ar cells : List ℕ} {bs : Places} {trail : List ℕ} {n : ℕ} (g : G
           let x = get_or cells r 0 - 32768 in
           omega (arith, moved w r h q, g.forward w r (sym (others w h) ∙ q) k, later-le x v (take n trail), ap (later x) tr)
 
-  bind-good : Good ar cells (set bs v (Some p)) (set trail n v) (n + 1)
-  bind-good = record {
+  bind-triangular : Triangular ar cells (set bs v (Some p)) (set trail n v) (n + 1)
+  bind-triangular = record {
     formed = g.formed;
     named = λ q l h. rw length-set (g.named q l h);
     narrow = rw length-set g.narrow;
@@ -174,24 +174,24 @@ module _ {ar cells : List ℕ} {bs : Places} {trail : List ℕ} {n : ℕ} (g : G
   }
 
 -- the equation between a free variable v and the term at p, after the occurs check
-module _ {ar cells : List ℕ} {bs : Places} {trail marks : List ℕ} {n v p : ℕ} (c : Checking ar cells bs trail n v marks) (u : Free bs v) (f : Final cells bs p) where
-  pub eliminate-fails : (rest : ℕ) → Occurs (occ v (value ar cells bs trail n p)) true → Ran ar cells bs trail n (eliminated v (value ar cells bs trail n p)) (suc rest) bs trail marks n (Failed rest)
+module _ {ar cells : List ℕ} {bs : Places} {trail stamps : List ℕ} {n v p : ℕ} (c : Checking ar cells bs trail n v stamps) (u : Free bs v) (f : Final cells bs p) where
+  pub eliminate-fails : (rest : ℕ) → Occurs (occ v (value ar cells bs trail n p)) true → UnifiesFrom ar cells bs trail n (eliminated v (value ar cells bs trail n p)) (suc rest) bs trail stamps n (Failed rest)
   unfolding eliminated
   eliminate-fails rest o = record { state = c.state; tells = (1, ite-no (ℕ_discrete (occ v (value ar cells bs trail n p)) 0) _ _ (λ e. omega (arith, o.if-so refl)), omega arith) }
 
-  bound' : (w : ℕ) → (get_or marks w 0 ≡ 0 → ⊥) → get_or (set bs v (Some p)) w None ≡ None → ⊥
+  bound' : (w : ℕ) → (get_or stamps w 0 ≡ 0 → ⊥) → get_or (set bs v (Some p)) w None ≡ None → ⊥
   bound' w h z = elim (ℕ_discrete w v) [
     | yes e ↦ c.state.bound w h (rw e u.open')
     | no q ↦ c.state.bound w h (sym (get_or-set_other bs v w (Some p) None q) ∙ z)
   ]
 
-  pub eliminate-binds : (rest : ℕ) → Occurs (occ v (value ar cells bs trail n p)) false → Ran ar cells bs trail n (eliminated v (value ar cells bs trail n p)) (suc rest) (set bs v (Some p)) (set trail n v) marks (n + 1) (Unified rest)
+  pub eliminate-binds : (rest : ℕ) → Occurs (occ v (value ar cells bs trail n p)) false → UnifiesFrom ar cells bs trail n (eliminated v (value ar cells bs trail n p)) (suc rest) (set bs v (Some p)) (set trail n v) stamps (n + 1) (Unified rest)
   unfolding eliminated
   eliminate-binds rest o =
       let away : occ v (value ar cells bs trail n p) ≡ 0 = o.if-not refl in
       record {
-        state = record { good = bind-good c.state.good u f away; wide = rw length-set c.state.wide; low = c.state.low; bound = bound' };
-        tells = (1, bind v (value ar cells bs trail n p) done, ite-yes (ℕ_discrete (occ v (value ar cells bs trail n p)) 0) _ _ away, bind-elims c.state.good u f away, omega arith);
+        state = record { triangular = bind-triangular c.state.triangular u f away; wide = rw length-set c.state.wide; low = c.state.low; bound = bound' };
+        tells = (1, bind v (value ar cells bs trail n p) done, ite-yes (ℕ_discrete (occ v (value ar cells bs trail n p)) 0) _ _ away, bind-elims c.state.triangular u f away, omega arith);
       }
 
 -- no variable is bound
@@ -199,7 +199,7 @@ all-free : (bs : Places) → ((v : ℕ) → get_or bs v None ≡ None) → unbou
 all-free [] h = refl
 all-free (b ∷ bs) h = omega (arith, sum_by-cons free_one b bs, ap free_one (h 0), all-free bs (λ v. h (suc v)))
 
-not-bound : {A : Type 0} {bs : Places} {marks : List ℕ} → Blank bs marks → (v r : ℕ) → get_or bs v None ≡ Some r → A
+not-bound : {A : Type 0} {bs : Places} {stamps : List ℕ} → NoBindings bs stamps → (v r : ℕ) → get_or bs v None ≡ Some r → A
 not-bound b v r q = let z = b.free v in cc
 
 no-elims : (ar cells : List ℕ) (bs : Places) (trail : List ℕ) → elims ar cells bs trail 0 ≡ done
@@ -207,9 +207,9 @@ unfolding elims_after
 no-elims ar cells bs trail = refl
 
 -- before the first equation
-module _ {ar cells : List ℕ} {bs : Places} {trail marks : List ℕ} (r : Ready ar cells (length bs) (length trail) (length marks)) (b : Blank bs marks) where
-  ready-good : Good ar cells bs trail 0
-  ready-good = record {
+module _ {ar cells : List ℕ} {bs : Places} {trail stamps : List ℕ} (r : Ready ar cells (length bs) (length trail) (length stamps)) (b : NoBindings bs stamps) where
+  ready-triangular : Triangular ar cells bs trail 0
+  ready-triangular = record {
     formed = r.formed;
     named = r.named;
     narrow = r.narrow;
@@ -224,9 +224,9 @@ module _ {ar cells : List ℕ} {bs : Places} {trail marks : List ℕ} (r : Ready
     forward = λ v r q. not-bound b v r q;
   }
 
-  pub ready-state : State ar cells bs trail marks 0 0
-  ready-state = record { good = ready-good; wide = r.wide; low = λ w. omega (arith, b.unmarked w); bound = λ w q. absurd (q (b.unmarked w)) }
+  pub ready-state : State ar cells bs trail stamps 0 0
+  ready-state = record { triangular = ready-triangular; wide = r.wide; low = λ w. omega (arith, b.unstamped w); bound = λ w q. absurd (q (b.unstamped w)) }
 
 -- after the last
-pub state-trailed : {ar cells : List ℕ} {bs : Places} {trail marks : List ℕ} {n top : ℕ} → State ar cells bs trail marks n top → Trailed bs trail marks n
-state-trailed s = record { within = omega (arith, s.good.counted, s.good.room); wide = s.wide; listed = s.good.listed; taken = s.good.taken; bound = s.bound }
+pub state-trailed : {ar cells : List ℕ} {bs : Places} {trail stamps : List ℕ} {n top : ℕ} → State ar cells bs trail stamps n top → Trailed bs trail stamps n
+state-trailed s = record { within = omega (arith, s.triangular.counted, s.triangular.room); wide = s.wide; listed = s.triangular.listed; taken = s.triangular.taken; bound = s.bound }

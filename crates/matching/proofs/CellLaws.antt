@@ -11,7 +11,7 @@ use Rattle.rules.specs.Terms.{Terms, var, app, nil, cons, count}
 use Rattle.rules.proofs.TermLaws.{ite-yes, ite-no}
 use Rattle.signature.specs.Symbols.{arity_at}
 use Rattle.matching.specs.Taking.{take_t, drop_t}
-use Rattle.matching.specs.Cells.{args_of, made, reads, from, term_at, Formed, Skipped, Next}
+use Rattle.matching.specs.Cells.{args_of, made, reads, from, term_at, Formed, Skipped, RestAt}
 use Rattle.matching.proofs.TakeLaws.{count-drop}
 
 pub args-functor : (ar : List ℕ) (c : ℕ) → c < 32768 → args_of ar c ≡ arity_at ar (c % 16384)
@@ -99,8 +99,8 @@ module _ {ar cells : List ℕ} (f : Formed ar cells) (p k : ℕ) (some : k ≡ 0
 
 -- the place after the first of k terms: where there is another, after skipping; else any
 module _ {ar cells : List ℕ} {p r : ℕ} (k : ℕ) where
-  pub next-skipped : k ≤ count (from ar cells p) → 1 < k → from ar cells r ≡ drop_t 1 (from ar cells p) → Next ar cells p k r
+  pub next-skipped : k ≤ count (from ar cells p) → 1 < k → from ar cells r ≡ drop_t 1 (from ar cells p) → RestAt ar cells p k r
   next-skipped le h e = record { enough = rw e (omega (arith, count-drop 1 (from ar cells p) (omega arith))); same = rw e }
 
-  pub next-none : k ≤ 1 → Next ar cells p k r
+  pub next-none : k ≤ 1 → RestAt ar cells p k r
   next-none h = let e : k - 1 ≡ 0 = omega arith in record { enough = omega arith; same = rw e }

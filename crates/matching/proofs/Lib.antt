@@ -5,5 +5,5 @@ pub mod SeenLaws
 pub mod TrailLaws
 pub mod OccursLaws
 pub mod BindLaws
-pub mod RanLaws
+pub mod OutcomeLaws
 pub mod WrittenLaws

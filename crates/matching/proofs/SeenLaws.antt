@@ -13,7 +13,7 @@ use Rattle.rules.proofs.TermLaws.{ite-yes, ite-no, applys-cons, apply-app}
 use Rattle.matching.specs.Taking.{take_t}
 use Rattle.matching.specs.Cells.{args_of, from, term_at, others}
 use Rattle.std.specs.Prelude.{Some, None}
-use Rattle.matching.specs.Bindings.{Places, elims, value, seen, later, Good, Free, Final, BoundTo, Resolved}
+use Rattle.matching.specs.Bindings.{Places, elims, value, seen, later, Triangular, Free, Final, BoundTo, Resolved}
 use Rattle.matching.proofs.CellLaws.{from-inside, from_cons, term_at-functor, term_at-var}
 use Rattle.matching.proofs.TrailLaws.{is-none}
 
@@ -47,7 +47,7 @@ module _ {ar cells : List ℕ} {bs : Places} {trail : List ℕ} {n p at : ℕ} (
 pub bound-to : {bs : Places} {cell v place : ℕ} → 32768 ≤ cell → v ≡ cell - 32768 → get_or bs v None ≡ Some place → BoundTo bs cell place
 bound-to l e h = record { variable = l; is = rw e at h }
 
-module _ {ar cells : List ℕ} {bs : Places} {trail : List ℕ} {n p at : ℕ} (g : Good ar cells bs trail n) (r : Resolving ar cells bs trail n p at) {place : ℕ} (to : BoundTo bs (get_or cells at 0) place) where
+module _ {ar cells : List ℕ} {bs : Places} {trail : List ℕ} {n p at : ℕ} (g : Triangular ar cells bs trail n) (r : Resolving ar cells bs trail n p at) {place : ℕ} (to : BoundTo bs (get_or cells at 0) place) where
   abbrev l : 32768 ≤ get_or cells at 0
   l = to.variable
 
@@ -84,7 +84,7 @@ module _ {ar cells : List ℕ} {bs : Places} {trail : List ℕ} {n p k at : ℕ}
   pub opened : (k ≡ 0 → ⊥) → k ≤ count (from ar cells p) → Resolved ar cells bs trail n p at → Opened ar cells bs trail n p k at
   opened pos le r = record { final = r.final; same = r.same; split = rw r.same (first_of ar cells p k pos le (elims ar cells bs trail n)) }
 
-module _ {ar cells : List ℕ} {bs : Places} {trail : List ℕ} {n : ℕ} (g : Good ar cells bs trail n) where
+module _ {ar cells : List ℕ} {bs : Places} {trail : List ℕ} {n : ℕ} (g : Triangular ar cells bs trail n) where
   -- a free variable, and a functor with its arguments
   pub open-var : {at : ℕ} → Final cells bs at → 32768 ≤ get_or cells at 0 → value ar cells bs trail n at ≡ var (get_or cells at 0 - 32768)
   open-var {at} f l = ap (apply (elims ar cells bs trail n)) (term_at-var ar cells at f.inside l) ∙ g.free _ (g.named at f.inside l) (f.open' l)

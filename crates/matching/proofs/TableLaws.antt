@@ -1,7 +1,7 @@
 -- Laws of the table.
 use Rattle.std.proofs.Common.{◌≡◌, ℕ, zero, suc, refl, ◌∙◌, get_or, replicate}
 use Rattle.std.specs.Prelude.{None}
-use Rattle.matching.specs.Bindings.{Blank}
+use Rattle.matching.specs.Bindings.{NoBindings}
 use Rattle.matching.specs.declared.bindings.Table.{Table}
 use Rattle.matching.specs.Tables.{Same}
 
@@ -17,6 +17,6 @@ each zero w x = refl
 each (suc n) zero x = refl
 each (suc n) (suc w) x = each n w x
 
--- A new table's bindings and marks.
-pub blank-new : (n : ℕ) → Blank (replicate n None) (replicate n 0)
-blank-new n = record { free = λ v. each n v None; unmarked = λ w. each n w 0 }
+-- A new table's bindings and stamps.
+pub blank-new : (n : ℕ) → NoBindings (replicate n None) (replicate n 0)
+blank-new n = record { free = λ v. each n v None; unstamped = λ w. each n w 0 }

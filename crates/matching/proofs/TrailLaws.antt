@@ -10,7 +10,7 @@ use lib.Seq.{take-suc, take-length, take-append_seam, get_or-set_same, get_or-se
 use Rattle.std.proofs.lemmas.List.{get_or_push, get_or-take, length-take-le}
 use Rattle.rules.proofs.TermLaws.{ite-yes, ite-no}
 use Rattle.std.specs.Prelude.{Option, Some, None}
-use Rattle.matching.specs.Bindings.{Places, later, Blank, Trailed}
+use Rattle.matching.specs.Bindings.{Places, later, NoBindings, Trailed}
 
 -- the place of a variable in the trail
 pub later-here : (v x : ℕ) (xs : List ℕ) → v ≡ x → later v (x ∷ xs) ≡ suc (length xs)
@@ -65,8 +65,8 @@ pub is-none : (o : Option ℕ) → ((p : ℕ) → o ≡ Some p → ⊥) → o �
 is-none None h = refl
 is-none (Some p) h = absurd (h p refl)
 
--- the last variable is free and unmarked again
-module _ {bs : Places} {trail marks : List ℕ} (i : ℕ) (t : Trailed bs trail marks (suc i)) where
+-- the last variable is free and unstamped again
+module _ {bs : Places} {trail stamps : List ℕ} (i : ℕ) (t : Trailed bs trail stamps (suc i)) where
   last : get_or trail i 0 < length bs
   last = t.listed i (omega arith)
 
@@ -82,15 +82,15 @@ module _ {bs : Places} {trail marks : List ℕ} (i : ℕ) (t : Trailed bs trail 
           let k : 0 < later w (take (suc i) trail) = t.taken w p (sym (others q) ∙ h) in
           later-left w (get_or trail i 0) (take i trail) (rw (take-suc trail i 0 t.within) at k) q
 
-  bound' : (w : ℕ) → (get_or (set marks (get_or trail i 0) 0) w 0 ≡ 0 → ⊥) → get_or (set bs (get_or trail i 0) None) w None ≡ None → ⊥
+  bound' : (w : ℕ) → (get_or (set stamps (get_or trail i 0) 0) w 0 ≡ 0 → ⊥) → get_or (set bs (get_or trail i 0) None) w None ≡ None → ⊥
   bound' w h = cases (ℕ_discrete w (get_or trail i 0))
     where
       cases : Dec (w ≡ get_or trail i 0) → get_or (set bs (get_or trail i 0) None) w None ≡ None → ⊥
-      cases (yes e) = absurd (h (rw e (get_or-set_same marks (get_or trail i 0) 0 0 (omega (arith, last, t.wide)))))
+      cases (yes e) = absurd (h (rw e (get_or-set_same stamps (get_or trail i 0) 0 0 (omega (arith, last, t.wide)))))
       cases (no q) =
-          λ z. t.bound w (λ y. h (get_or-set_other marks (get_or trail i 0) w 0 0 q ∙ y)) (sym (others q) ∙ z)
+          λ z. t.bound w (λ y. h (get_or-set_other stamps (get_or trail i 0) w 0 0 q ∙ y)) (sym (others q) ∙ z)
 
-  trailed-last : Trailed (set bs (get_or trail i 0) None) trail (set marks (get_or trail i 0) 0) i
+  trailed-last : Trailed (set bs (get_or trail i 0) None) trail (set stamps (get_or trail i 0) 0) i
   trailed-last = record {
     within = omega (arith, t.within);
     wide = simp length-set t.wide;
@@ -99,9 +99,9 @@ module _ {bs : Places} {trail marks : List ℕ} (i : ℕ) (t : Trailed bs trail 
     bound = bound';
   }
 
-module _ {bs : Places} {marks : List ℕ} where
+module _ {bs : Places} {stamps : List ℕ} where
   -- no more of the trail than is bound
-  pub trailed-taken : {trail : List ℕ} {n : ℕ} → Trailed bs trail marks n → Trailed bs (take n trail) marks (length (take n trail))
+  pub trailed-taken : {trail : List ℕ} {n : ℕ} → Trailed bs trail stamps n → Trailed bs (take n trail) stamps (length (take n trail))
   trailed-taken {trail} {n} t =
       let e : length (take n trail) ≡ n = length-take-le n trail t.within in
       record {
@@ -112,22 +112,22 @@ module _ {bs : Places} {marks : List ℕ} where
         bound = t.bound;
       }
 
-module _ {bs : Places} {marks : List ℕ} where
+module _ {bs : Places} {stamps : List ℕ} where
   -- without the last
-  pub trailed-popped : (xs : List ℕ) (y : ℕ) → Trailed bs (xs ++ (y ∷ [])) marks (length (xs ++ (y ∷ []))) → Trailed (set bs y None) xs (set marks y 0) (length xs)
+  pub trailed-popped : (xs : List ℕ) (y : ℕ) → Trailed bs (xs ++ (y ∷ [])) stamps (length (xs ++ (y ∷ []))) → Trailed (set bs y None) xs (set stamps y 0) (length xs)
   trailed-popped xs y t =
       let e : length (xs ++ (y ∷ [])) ≡ suc (length xs) = omega (arith, length-append xs (y ∷ [])) in
-      let last : Trailed (set bs (get_or (xs ++ (y ∷ [])) (length xs) 0) None) (xs ++ (y ∷ [])) (set marks (get_or (xs ++ (y ∷ [])) (length xs) 0) 0) (length xs) = trailed-last (length xs) (rw e at t) in
-      let popped : Trailed (set bs y None) (xs ++ (y ∷ [])) (set marks y 0) (length xs) = rw (get_or_push xs y 0 (length xs) refl) at last in
-      let front : Trailed (set bs y None) (take (length xs) (xs ++ (y ∷ []))) (set marks y 0) (length (take (length xs) (xs ++ (y ∷ [])))) = trailed-taken popped in
+      let last : Trailed (set bs (get_or (xs ++ (y ∷ [])) (length xs) 0) None) (xs ++ (y ∷ [])) (set stamps (get_or (xs ++ (y ∷ [])) (length xs) 0) 0) (length xs) = trailed-last (length xs) (rw e at t) in
+      let popped : Trailed (set bs y None) (xs ++ (y ∷ [])) (set stamps y 0) (length xs) = rw (get_or_push xs y 0 (length xs) refl) at last in
+      let front : Trailed (set bs y None) (take (length xs) (xs ++ (y ∷ []))) (set stamps y 0) (length (take (length xs) (xs ++ (y ∷ [])))) = trailed-taken popped in
       rw take-append_seam at front
 
-  pub trailed-none : {trail : List ℕ} {left : ℕ} → Trailed bs trail marks left → left ≡ 0 → Blank bs marks
+  pub trailed-none : {trail : List ℕ} {left : ℕ} → Trailed bs trail stamps left → left ≡ 0 → NoBindings bs stamps
   trailed-none {left = suc i} t h = absurd (omega arith)
-  trailed-none {left = zero} t h = record { free = free'; unmarked = unmarked' }
+  trailed-none {left = zero} t h = record { free = free'; unstamped = unstamped' }
     where
       free' : (v : ℕ) → get_or bs v None ≡ None
       free' v = is-none (get_or bs v None) (λ p e. omega (arith, t.taken v p e, later-none v))
 
-      unmarked' : (w : ℕ) → get_or marks w 0 ≡ 0
-      unmarked' w = elim (ℕ_discrete (get_or marks w 0) 0) [ yes e ↦ e | no q ↦ absurd (t.bound w q (free' w)) ]
+      unstamped' : (w : ℕ) → get_or stamps w 0 ≡ 0
+      unstamped' w = elim (ℕ_discrete (get_or stamps w 0) 0) [ yes e ↦ e | no q ↦ absurd (t.bound w q (free' w)) ]

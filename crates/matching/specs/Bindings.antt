@@ -1,4 +1,4 @@
--- What bindings stand for, and the marks of the occurs check. Assumes nothing.
+-- What bindings stand for, and the stamps of the occurs check. Assumes nothing.
 use Rattle.std.specs.Prelude.{ℕ, suc, ◌+◌, ◌-◌, ◌<◌, ◌≤◌, ◌≡◌, Bool, true, false, List, [], ◌∷◌, length, get_or, take, set, Option, Some, None, unwrap_or, is_none, count_by}
 use Rattle.std.proofs.Math.Logic.{ite}
 use Rattle.std.proofs.Math.Decide.{ℕ_discrete, dec_lt}
@@ -40,7 +40,7 @@ unbound bs = count_by is_none bs
 
 -- The bindings `bs` and the first n variables of `trail` stand for the eliminations `elims ..`:
 -- a free variable is not eliminated, a bound one has the term at its entry, and chains of variables go forward in the trail.
-pub record Good (ar cells : List ℕ) (bs : Places) (trail : List ℕ) (n : ℕ) : Type 0 where
+pub record Triangular (ar cells : List ℕ) (bs : Places) (trail : List ℕ) (n : ℕ) : Type 0 where
   pub formed : Formed ar cells
   pub named : (p : ℕ) → p < length cells → 32768 ≤ get_or cells p 0 → get_or cells p 0 - 32768 < length bs
   pub narrow : length bs < 65535
@@ -72,50 +72,50 @@ pub record Resolved (ar cells : List ℕ) (bs : Places) (trail : List ℕ) (n p 
   pub final : Final cells bs r
   pub same : value ar cells bs trail n r ≡ value ar cells bs trail n p
 
--- The bindings are good, no mark is above `top`, and only bound variables are marked.
-pub record State (ar cells : List ℕ) (bs : Places) (trail marks : List ℕ) (n top : ℕ) : Type 0 where
-  pub good : Good ar cells bs trail n
-  pub wide : length bs ≤ length marks
-  pub low : (w : ℕ) → get_or marks w 0 ≤ top
-  pub bound : (w : ℕ) → (get_or marks w 0 ≡ 0 → ⊥) → get_or bs w None ≡ None → ⊥
+-- The bindings are triangular, no stamp is above `top`, and only bound variables are stamped.
+pub record State (ar cells : List ℕ) (bs : Places) (trail stamps : List ℕ) (n top : ℕ) : Type 0 where
+  pub triangular : Triangular ar cells bs trail n
+  pub wide : length bs ≤ length stamps
+  pub low : (w : ℕ) → get_or stamps w 0 ≤ top
+  pub bound : (w : ℕ) → (get_or stamps w 0 ≡ 0 → ⊥) → get_or bs w None ≡ None → ⊥
 
 -- The same, and at neither of a and b stands a bound variable.
-pub record Paired (ar cells : List ℕ) (bs : Places) (trail marks : List ℕ) (n a b : ℕ) : Type 0 where
-  pub state : State ar cells bs trail marks n n
+pub record Paired (ar cells : List ℕ) (bs : Places) (trail stamps : List ℕ) (n a b : ℕ) : Type 0 where
+  pub state : State ar cells bs trail stamps n n
   pub left : Final cells bs a
   pub right : Final cells bs b
 
--- In an occurs check for v: a variable with the mark n + 1 has a value in which v does not occur.
-pub record Checking (ar cells : List ℕ) (bs : Places) (trail : List ℕ) (n v : ℕ) (marks : List ℕ) : Type 0 where
-  pub state : State ar cells bs trail marks n (n + 1)
-  pub clean : (w : ℕ) → w < length bs → get_or marks w 0 ≡ n + 1 → occ v (apply (elims ar cells bs trail n) (var w)) ≡ 0
+-- In an occurs check for v: a variable with the stamp n + 1 has a value in which v does not occur.
+pub record Checking (ar cells : List ℕ) (bs : Places) (trail : List ℕ) (n v : ℕ) (stamps : List ℕ) : Type 0 where
+  pub state : State ar cells bs trail stamps n (n + 1)
+  pub clean : (w : ℕ) → w < length bs → get_or stamps w 0 ≡ n + 1 → occ v (apply (elims ar cells bs trail n) (var w)) ≡ 0
 
 -- r says whether something occurs that occurs k times
 pub record Occurs (k : ℕ) (r : Bool) : Type 0 where
   pub if-so : r ≡ true → 0 < k
   pub if-not : r ≡ false → k ≡ 0
 
--- the marks after a cell's variable is marked, if it is a variable
+-- the stamps after a cell's variable is stamped, if it is a variable
 unfoldable pub stamped : List ℕ → ℕ → ℕ → List ℕ
-stamped marks stamp c = ite (dec_lt c 32768) marks (set marks (c - 32768) stamp)
+stamped stamps stamp c = ite (dec_lt c 32768) stamps (set stamps (c - 32768) stamp)
 
--- no variable is bound, and none is marked
-pub record Blank (bs : Places) (marks : List ℕ) : Type 0 where
+-- no variable is bound, and none is stamped
+pub record NoBindings (bs : Places) (stamps : List ℕ) : Type 0 where
   pub free : (v : ℕ) → get_or bs v None ≡ None
-  pub unmarked : (w : ℕ) → get_or marks w 0 ≡ 0
+  pub unstamped : (w : ℕ) → get_or stamps w 0 ≡ 0
 
--- the first n variables of the trail are all that are bound, and so all that are marked
-pub record Trailed (bs : Places) (trail marks : List ℕ) (n : ℕ) : Type 0 where
+-- the first n variables of the trail are all that are bound, and so all that are stamped
+pub record Trailed (bs : Places) (trail stamps : List ℕ) (n : ℕ) : Type 0 where
   pub within : n ≤ length trail
-  pub wide : length bs ≤ length marks
+  pub wide : length bs ≤ length stamps
   pub listed : (i : ℕ) → i < n → get_or trail i 0 < length bs
   pub taken : (v p : ℕ) → get_or bs v None ≡ Some p → 0 < later v (take n trail)
-  pub bound : (w : ℕ) → (get_or marks w 0 ≡ 0 → ⊥) → get_or bs w None ≡ None → ⊥
+  pub bound : (w : ℕ) → (get_or stamps w 0 ≡ 0 → ⊥) → get_or bs w None ≡ None → ⊥
 
--- cells over nv variables, and room for as many in the trail and the marks
-pub record Ready (ar cells : List ℕ) (nv room marks : ℕ) : Type 0 where
+-- cells over nv variables, and room for as many in the trail and the stamps
+pub record Ready (ar cells : List ℕ) (nv room stamps : ℕ) : Type 0 where
   pub formed : Formed ar cells
   pub named : (p : ℕ) → p < length cells → 32768 ≤ get_or cells p 0 → get_or cells p 0 - 32768 < nv
   pub narrow : nv < 65535
   pub trailed : nv ≤ room
-  pub wide : nv ≤ marks
+  pub wide : nv ≤ stamps

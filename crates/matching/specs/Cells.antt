@@ -43,6 +43,6 @@ pub record Skipped (ar cells : List ℕ) (p k r : ℕ) : Type 0 where
   pub same : from ar cells r ≡ drop_t k (from ar cells p)
 
 -- of the k terms at p, those after the first are at r
-pub record Next (ar cells : List ℕ) (p k r : ℕ) : Type 0 where
+pub record RestAt (ar cells : List ℕ) (p k r : ℕ) : Type 0 where
   pub enough : k - 1 ≤ count (from ar cells r)
   pub same : take_t (k - 1) (from ar cells r) ≡ others ar cells p k

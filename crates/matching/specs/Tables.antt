@@ -2,7 +2,7 @@
 use Rattle.std.specs.Prelude.{◌≡◌}
 use Rattle.matching.specs.declared.bindings.Table.{Table}
 
--- At most the marks have changed.
+-- At most the stamps have changed.
 pub record Same (table table' : Table) : Type 0 where
   pub bind : table'.bind ≡ table.bind
   pub trail : table'.trail ≡ table.trail

@@ -3,7 +3,7 @@ ghost use Rattle.std.specs.Prelude.{◌≡◌, ◌%◌, ◌≤◌, ◌<◌, leng
 ghost use Rattle.rules.specs.Terms.{count};
 ghost use Rattle.signature.specs.Symbols.{symbol_count};
 ghost use Rattle.matching.specs.Taking.{drop_t};
-ghost use Rattle.matching.specs.Cells.{args_of, from, Formed, Skipped, Next};
+ghost use Rattle.matching.specs.Cells.{args_of, from, Formed, Skipped, RestAt};
 
 // The deck's format: cells below NEGATED are symbols, those from there on negated predicates, and those from VARIABLE on variables.
 pub const NEGATED: u16 = 16384;
@@ -53,7 +53,7 @@ impl FlatTerms<'_> {
     // The place after the first of the `number` terms at p. Where no other follows, nothing is walked.
     pub fn after_first(&self, p: usize, number: usize) -> usize
         requires { number ≤ count (from self.now.symbols.now self.now.cells.now p) }
-        ensures { Next self.now.symbols.now self.now.cells.now p number result }
+        ensures { RestAt self.now.symbols.now self.now.cells.now p number result }
     {
         if 1 < number { self.skip(p) } else { p }
     }

@@ -3,7 +3,7 @@
 // 32768 + v is the variable v. Cells stay words of the deck's format, and the test against 32768 is
 // shorter than `match Cell::from(c) { Cell::Symbol(f) => .. }`. No term is copied.
 //
-// Between unifications no variable is bound and every mark is 0. `undo` makes them so again from the
+// Between unifications no variable is bound and every stamp is 0. `undo` makes them so again from the
 // trail, so that no unification costs what the table is long.
 #![tactic(auto)]
 

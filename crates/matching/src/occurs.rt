@@ -1,7 +1,7 @@
 // The occurs check, document 01's test that a term contains a variable: the terms are taken as they
 // are after the replacements. A bound variable whose term was walked and does not contain it is
-// marked with one more than the number of bindings and not walked again, so that shared terms are
-// walked once. A mark is a number and no `Option`: 0 is none, and a mark is only compared with the stamp, which is never 0.
+// stamped with one more than the number of bindings and not walked again, so that shared terms are
+// walked once. A stamp is a number and no `Option`: 0 is none, and a test's own stamp is never 0.
 ghost use Rattle.std.specs.Prelude.{◌≡◌, true, ◌-◌, ◌≤◌, ◌<◌, length, get_or};
 ghost use Rattle.rules.specs.Terms.{occ, occs, count};
 ghost use Rattle.matching.specs.Cells.{from};
@@ -11,33 +11,33 @@ ghost use Rattle.matching.specs.Tables.{Same};
 use super::bindings::{Bound, Table};
 use super::cells::{FlatTerms, VARIABLE};
 
-// Whether the cell is a variable whose mark is the stamp.
-fn marked(table: &Table, stamp: usize, cell: u16) -> bool
-    requires { 32768 ≤ cell → cell - 32768 < length table.now.marks }
-    ensures { result ≡ true → (32768 ≤ cell) × (get_or table.now.marks (cell - 32768) 0 ≡ stamp) }
+// Whether the cell is a variable with that stamp.
+fn is_stamped(table: &Table, stamp: usize, cell: u16) -> bool
+    requires { 32768 ≤ cell → cell - 32768 < length table.now.stamps }
+    ensures { result ≡ true → (32768 ≤ cell) × (get_or table.now.stamps (cell - 32768) 0 ≡ stamp) }
 {
-    VARIABLE <= cell && usize::from(table.marks[usize::from(cell - VARIABLE)]) == stamp
+    VARIABLE <= cell && usize::from(table.stamps[usize::from(cell - VARIABLE)]) == stamp
 }
 
-// Marks the cell's variable, if it is one. The stamp fits, so `try_from` would give an error that cannot come.
-fn mark(table: &mut Table, stamp: usize, cell: u16)
-    requires variable_in_bounds { 32768 ≤ cell → cell - 32768 < length table.old.marks }
+// Gives the cell's variable the stamp, if it is one. The stamp fits, so `try_from` would give an error that cannot come.
+fn set_stamp(table: &mut Table, stamp: usize, cell: u16)
+    requires variable_in_bounds { 32768 ≤ cell → cell - 32768 < length table.old.stamps }
     requires stamp_bound { stamp < 65536 }
-    ensures table_after { table.new.marks ≡ stamped table.old.marks stamp cell }
+    ensures table_after { table.new.stamps ≡ stamped table.old.stamps stamp cell }
     ensures bindings_kept { Same table.old table.new }
 {
     if VARIABLE <= cell {
-        table.marks[usize::from(cell - VARIABLE)] = stamp as u16;
+        table.stamps[usize::from(cell - VARIABLE)] = stamp as u16;
     }
 }
 
 // Whether the variable v occurs in the term at p.
 #[cycle(occurs_occurs_any)]
 pub fn occurs(terms: &FlatTerms, table: &mut Table, v: u16, p: usize) -> bool
-    requires checking { Checking terms.now.symbols.now terms.now.cells.now table.old.bind table.old.trail table.old.bound v table.old.marks }
+    requires checking { Checking terms.now.symbols.now terms.now.cells.now table.old.bind table.old.trail table.old.bound v table.old.stamps }
     requires p_in_bounds { p < length terms.now.cells.now }
     ensures occurs { Occurs (occ v (value terms.now.symbols.now terms.now.cells.now table.old.bind table.old.trail table.old.bound p)) result }
-    ensures checking_after { Checking terms.now.symbols.now terms.now.cells.now table.old.bind table.old.trail table.old.bound v table.new.marks }
+    ensures checking_after { Checking terms.now.symbols.now terms.now.cells.now table.old.bind table.old.trail table.old.bound v table.new.stamps }
     ensures bindings_kept { Same table.old table.new }
 {
     let bound = Bound {
@@ -50,14 +50,14 @@ pub fn occurs(terms: &FlatTerms, table: &mut Table, v: u16, p: usize) -> bool
         return c - VARIABLE == v;
     }
     let stamp = table.bound + 1;
-    if marked(table, stamp, terms.cells[p]) {
+    if is_stamped(table, stamp, terms.cells[p]) {
         return false;
     }
     let arity = terms.arity(at);
     if occurs_any(terms, table, v, at + 1, arity) {
         return true;
     }
-    mark(table, stamp, terms.cells[p]);
+    set_stamp(table, stamp, terms.cells[p]);
     false
 }
 
@@ -65,10 +65,10 @@ pub fn occurs(terms: &FlatTerms, table: &mut Table, v: u16, p: usize) -> bool
 // from the term before it.
 #[cycle(occurs_occurs_any)]
 fn occurs_any(terms: &FlatTerms, table: &mut Table, v: u16, p: usize, number: usize) -> bool
-    requires checking { Checking terms.now.symbols.now terms.now.cells.now table.old.bind table.old.trail table.old.bound v table.old.marks }
+    requires checking { Checking terms.now.symbols.now terms.now.cells.now table.old.bind table.old.trail table.old.bound v table.old.stamps }
     requires number_bound { number ≤ count (from terms.now.symbols.now terms.now.cells.now p) }
     ensures occurs { Occurs (occs v (seen terms.now.symbols.now terms.now.cells.now table.old.bind table.old.trail table.old.bound p number)) result }
-    ensures checking_after { Checking terms.now.symbols.now terms.now.cells.now table.old.bind table.old.trail table.old.bound v table.new.marks }
+    ensures checking_after { Checking terms.now.symbols.now terms.now.cells.now table.old.bind table.old.trail table.old.bound v table.new.stamps }
     ensures bindings_kept { Same table.old table.new }
 {
     if number == 0 {

@@ -5,8 +5,8 @@
 ghost use Rattle.std.specs.Prelude.{◌≡◌, ◌≤◌, length};
 ghost use Rattle.rules.specs.Terms.{count};
 ghost use Rattle.matching.specs.Cells.{from};
-ghost use Rattle.matching.specs.Bindings.{State, Paired, Free, Final, Ready, Blank};
-ghost use Rattle.matching.specs.Outcomes.{RanVariable, RanPair, RanPairs, EndedPairs};
+ghost use Rattle.matching.specs.Bindings.{State, Paired, Free, Final, Ready, NoBindings};
+ghost use Rattle.matching.specs.Outcomes.{UnifiesVariable, UnifiesPair, UnifiesPairs, UnifiesTerms};
 
 use super::bindings::{Bound, Table};
 use super::cells::{FlatTerms, VARIABLE};
@@ -25,10 +25,10 @@ pub enum Outcome {
 // The equation between the free variable v and the term at p, which is not that variable. `rest` is left after it. The place
 // fits, so `try_from` would give an error that cannot come.
 fn eliminate(terms: &FlatTerms, table: &mut Table, rest: u32, v: u16, p: usize) -> Outcome
-    requires state { State terms.now.symbols.now terms.now.cells.now table.old.bind table.old.trail table.old.marks table.old.bound table.old.bound }
+    requires state { State terms.now.symbols.now terms.now.cells.now table.old.bind table.old.trail table.old.stamps table.old.bound table.old.bound }
     requires free { Free table.old.bind v }
     requires final_place { Final terms.now.cells.now table.old.bind p }
-    ensures { RanVariable terms.now.symbols.now terms.now.cells.now table.old.bind table.old.trail table.old.bound v p rest table.new.bind table.new.trail table.new.marks table.new.bound result }
+    ensures { UnifiesVariable terms.now.symbols.now terms.now.cells.now table.old.bind table.old.trail table.old.bound v p rest table.new.bind table.new.trail table.new.stamps table.new.bound result }
 {
     let found = occurs(terms, table, v, p);
     if found {
@@ -43,8 +43,8 @@ fn eliminate(terms: &FlatTerms, table: &mut Table, rest: u32, v: u16, p: usize) 
 // The equation between the terms at a and b, at neither of which stands a variable that was replaced.
 #[cycle(pair_pairs)]
 fn pair(terms: &FlatTerms, table: &mut Table, left: u32, a: usize, b: usize) -> Outcome
-    requires { Paired terms.now.symbols.now terms.now.cells.now table.old.bind table.old.trail table.old.marks table.old.bound a b }
-    ensures { RanPair terms.now.symbols.now terms.now.cells.now table.old.bind table.old.trail table.old.bound a b left table.new.bind table.new.trail table.new.marks table.new.bound result }
+    requires { Paired terms.now.symbols.now terms.now.cells.now table.old.bind table.old.trail table.old.stamps table.old.bound a b }
+    ensures { UnifiesPair terms.now.symbols.now terms.now.cells.now table.old.bind table.old.trail table.old.bound a b left table.new.bind table.new.trail table.new.stamps table.new.bound result }
 {
     let Some(rest) = left.checked_sub(1) else {
         return Outcome::Broken;
@@ -78,10 +78,10 @@ fn pairs(
     q: usize,
     number: usize,
 ) -> Outcome
-    requires state { State terms.now.symbols.now terms.now.cells.now table.old.bind table.old.trail table.old.marks table.old.bound table.old.bound }
+    requires state { State terms.now.symbols.now terms.now.cells.now table.old.bind table.old.trail table.old.stamps table.old.bound table.old.bound }
     requires left_bound { number ≤ count (from terms.now.symbols.now terms.now.cells.now p) }
     requires right_bound { number ≤ count (from terms.now.symbols.now terms.now.cells.now q) }
-    ensures { RanPairs terms.now.symbols.now terms.now.cells.now table.old.bind table.old.trail table.old.bound p q number left table.new.bind table.new.trail table.new.marks table.new.bound result }
+    ensures { UnifiesPairs terms.now.symbols.now terms.now.cells.now table.old.bind table.old.trail table.old.bound p q number left table.new.bind table.new.trail table.new.stamps table.new.bound result }
 {
     if number == 0 {
         return Outcome::Unified(left);
@@ -102,7 +102,7 @@ fn pairs(
 }
 
 // Unifies the `number` terms at p with those at q, with at most `left` equations. The bindings stand for
-// the substitution after. What this binds and marks, `undo` takes back.
+// the substitution after. What this binds and stamps, `undo` takes back.
 pub fn unify_terms(
     terms: &FlatTerms,
     table: &mut Table,
@@ -111,11 +111,11 @@ pub fn unify_terms(
     q: usize,
     number: usize,
 ) -> Outcome
-    requires ready { Ready terms.now.symbols.now terms.now.cells.now (length table.old.bind) (length table.old.trail) (length table.old.marks) }
-    requires blank { Blank table.old.bind table.old.marks }
+    requires ready { Ready terms.now.symbols.now terms.now.cells.now (length table.old.bind) (length table.old.trail) (length table.old.stamps) }
+    requires blank { NoBindings table.old.bind table.old.stamps }
     requires left_bound { number ≤ count (from terms.now.symbols.now terms.now.cells.now p) }
     requires right_bound { number ≤ count (from terms.now.symbols.now terms.now.cells.now q) }
-    ensures { EndedPairs terms.now.symbols.now terms.now.cells.now p q number left table.new.bind table.new.trail table.new.marks table.new.bound result }
+    ensures { UnifiesTerms terms.now.symbols.now terms.now.cells.now p q number left table.new.bind table.new.trail table.new.stamps table.new.bound result }
 {
     table.bound = 0;
     pairs(terms, table, left, p, q, number)

@@ -20,6 +20,6 @@ pub record ToldOf (r : MeanRun) (t : Told) : Type 0 where
   pub whole : unsigned_abs t.mean.whole < 4294967296
   pub remainder : t.mean.remainder < 65536
 
-abbrev pub Tells : Checked MeanRun → Result Told Refusal → Type 0
-Tells c (Ok t) = (r : MeanRun) × (c ≡ accepted r) × ToldOf r t
-Tells c (Err why) = c ≡ refused (refusal_for why)
+abbrev pub TellsMeanRun : Checked MeanRun → Result Told Refusal → Type 0
+TellsMeanRun c (Ok t) = (r : MeanRun) × (c ≡ accepted r) × ToldOf r t
+TellsMeanRun c (Err why) = c ≡ refused (refusal_for why)

@@ -7,7 +7,7 @@ ghost use Rattle.rules.specs.CarryProgram.{number_from};
 ghost use Rattle.listing.specs.Printed.{file_of, Printed};
 ghost use Rattle.program_parts.specs.Answers.{Prints};
 ghost use Rattle.mean_program.specs.MeanProgram.{words_mean, mean_run, mean_prints, mean_program};
-ghost use Rattle.mean_program.specs.Told.{Tells};
+ghost use Rattle.mean_program.specs.Told.{TellsMeanRun};
 
 use deck::Refusal;
 use deck::opened::Opened;
@@ -77,7 +77,7 @@ fn behind(input: &[u8]) -> &[u8]
 
 // The program's run from the words of both inputs on, and the mean of the column of its answers.
 fn find_mean(deck: &[u16], query: &[u16], place: u64) -> Result<Told, Refusal>
-    ensures { Tells (words_mean place deck.now query.now) result }
+    ensures { TellsMeanRun (words_mean place deck.now query.now) result }
 {
     let mut table = [0; 4096];
     let opened = Opened::new(deck, &mut table)?;

@@ -16,7 +16,7 @@ use Rattle.text.specs.declared.grammar.Key.{Key}
 use Rattle.text.specs.declared.grammar.Key.TheVariants as keys
 use Rattle.text.specs.Steps.{IsKey}
 use Rattle.text.specs.Kinds.{kind_of, value_in}
-use Rattle.text.specs.Scan.{tokens_from, Next}
+use Rattle.text.specs.Scan.{tokens_from, NextToken}
 use Rattle.text.proofs.TokenLaws.{not-ending}
 use Rattle.text.proofs.ReadLaws.{token_of}
 use Rattle.naming.specs.declared.declarations.Counted.{Counted}
@@ -38,7 +38,7 @@ and-false true = refl
 and-false false = refl
 
 -- The next token and those after it.
-module _ (text : List ℕ) (at : ℕ) (r : code.Token) (n : Next text at r) where
+module _ (text : List ℕ) (at : ℕ) (r : code.Token) (n : NextToken text at r) where
   pub scanned-on : (r.kind ≡ Ending → ⊥) → tokens 0 (drop at text) ≡ token_of text r ∷ tokens 0 (drop r.to text)
   scanned-on f = n.scanned ∙ ap {B = List Token} (token_of text r ∷◌) (not-ending r.kind text r.to f)
 
@@ -69,7 +69,7 @@ module _ (text : List ℕ) (at : ℕ) (r : code.Token) (n : Next text at r) wher
   key-not-last keys.Predicate e = not-last name (λ q. omega arith) (key-name e.0)
   key-not-last keys.Number e = not-last name (λ q. omega arith) (number-name (token_of text r) (e.1))
 
-  pub no_name : (w : Key) → IsKey (token_of text r) (Some w) → (s : code.Token) → Next text r.to s → (s.kind ≡ Name → ⊥) → Ends text at
+  pub no_name : (w : Key) → IsKey (token_of text r) (Some w) → (s : code.Token) → NextToken text r.to s → (s.kind ≡ Name → ⊥) → Ends text at
   unfolding declares
   no_name w e s m f =
       let ts = tokens 0 (drop r.to text) in
@@ -78,7 +78,7 @@ module _ (text : List ℕ) (at : ℕ) (r : code.Token) (n : Next text at r) wher
       ends_by ts (scanned-on (key-not-last w e)) (ap (λ b. (is_key (token_of text r) || is_number_key (token_of text r)) && b) g ∙ and-false (is_key (token_of text r) || is_number_key (token_of text r)))
 
 -- After the name: `/`, an arity and a dot.
-module _ (text : List ℕ) (at : ℕ) (s a : code.Token) (S : Next text at s) (A : Next text s.to a) (readable : unread (declared (numbers_in text)) (tokens 0 (drop at text)) ≡ none) where
+module _ (text : List ℕ) (at : ℕ) (s a : code.Token) (S : NextToken text at s) (A : NextToken text s.to a) (readable : unread (declared (numbers_in text)) (tokens 0 (drop at text)) ≡ none) where
   abbrev m : Bool
   m = numbers_in text
 
@@ -101,7 +101,7 @@ module _ (text : List ℕ) (at : ℕ) (s a : code.Token) (S : Next text at s) (A
   pub arity-there : ((m : ℕ) → a.kind ≡ Number m → ⊥) → ⊥
   arity-there f = number-kind a.kind number-there.0 f
 
-  module _ (d : code.Token) (D : Next text a.to d) (arity : ℕ) (is_arity : a.kind ≡ Number arity) where
+  module _ (d : code.Token) (D : NextToken text a.to d) (arity : ℕ) (is_arity : a.kind ≡ Number arity) where
     abbrev td : Token
     td = token_of text d
 
@@ -138,7 +138,7 @@ module _ (text : List ℕ) (at : ℕ) (s a : code.Token) (S : Next text at s) (A
         }
 
 -- A value and a dot.
-module _ (text : List ℕ) (at : ℕ) (v : code.Token) (V : Next text at v) (numbers : numbers_in text ≡ true) (readable : unread number_declared (tokens 0 (drop at text)) ≡ none) where
+module _ (text : List ℕ) (at : ℕ) (v : code.Token) (V : NextToken text at v) (numbers : numbers_in text ≡ true) (readable : unread number_declared (tokens 0 (drop at text)) ≡ none) where
   abbrev tv : Token
   tv = token_of text v
 
@@ -149,7 +149,7 @@ module _ (text : List ℕ) (at : ℕ) (v : code.Token) (V : Next text at v) (num
   unfolding is_value
   given-there f g = value-kind v.kind value-there.0 f g
 
-  module _ (d : code.Token) (D : Next text v.to d) (word : ℕ) (is-word : value_in v.kind ≡ Some word) where
+  module _ (d : code.Token) (D : NextToken text v.to d) (word : ℕ) (is-word : value_in v.kind ≡ Some word) where
     abbrev tl : Token
     tl = token_of text d
 
@@ -183,7 +183,7 @@ module _ (text : List ℕ) (at : ℕ) (v : code.Token) (V : Next text at v) (num
         }
 
 -- A declaration: a key, a name and what follows.
-module _ (text : List ℕ) (at : ℕ) (k n : code.Token) (K : Next text at k) (N : Next text k.to n) (readable : Readable text at) (w : Key) (is-w : IsKey (token_of text k) (Some w)) (a-name : n.kind ≡ Name) where
+module _ (text : List ℕ) (at : ℕ) (k n : code.Token) (K : NextToken text at k) (N : NextToken text k.to n) (readable : Readable text at) (w : Key) (is-w : IsKey (token_of text k) (Some w)) (a-name : n.kind ≡ Name) where
   abbrev tk : Token
   tk = token_of text k
 

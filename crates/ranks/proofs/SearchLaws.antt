@@ -26,7 +26,7 @@ use Rattle.clauses.specs.Tried.{row_of_symbol}
 use Rattle.ranks.specs.declared.literals.Bare.{Bare}
 use Rattle.ranks.specs.Literals.{Begins}
 use Rattle.ranks.specs.Raising.{at}
-use Rattle.ranks.specs.Searching.{Ready, Blank, Begun, Raised, lifted, Pushes, none, more, Reaches, Follows, CircleSays}
+use Rattle.ranks.specs.Searching.{Ready, NothingReached, Begun, Raised, lifted, Pushes, none, more, Reaches, Follows, CircleSays}
 use Rattle.ranks.proofs.ListLaws.{all-mem, all_append, all-mono, in-more, in-last, of-more, in-first, in-rest}
 use Rattle.ranks.proofs.RaiseLaws.{at_same, at_other, set-grows}
 
@@ -343,7 +343,7 @@ pub lower-more : (clauses : List Clause) (p : ℕ) → ((q : ℕ) → q < p → 
 lower-more clauses p h n q l c = elim (ℕ_discrete q p) [ yes e ↦ n (subst (Circular clauses) e c) | no k ↦ h q (omega arith) c ]
 
 -- Nothing is marked.
-pub blank-ready : (marks waiting : List ℕ) → Blank marks waiting → Ready marks waiting
+pub blank-ready : (marks waiting : List ℕ) → NothingReached marks waiting → Ready marks waiting
 blank-ready marks waiting b = record {
   size = b.size;
   two = λ x. omega (arith, b.unmarked x);
@@ -353,7 +353,7 @@ blank-ready marks waiting b = record {
 }
 
 -- p alone is marked, and waits.
-pub raised-begun : (p : ℕ) (marks waiting marks' waiting' : List ℕ) → p < 4096 → Blank marks waiting → Raised p 1 marks waiting marks' waiting' → Begun p marks' waiting'
+pub raised-begun : (p : ℕ) (marks waiting marks' waiting' : List ℕ) → p < 4096 → NothingReached marks waiting → Raised p 1 marks waiting marks' waiting' → Begun p marks' waiting'
 raised-begun p marks waiting marks' waiting' h b r =
     let w = r.raised (omega (arith, b.unmarked p)) in
     record {

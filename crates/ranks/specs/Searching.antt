@@ -15,7 +15,7 @@ pub record Ready (marks waiting : List ℕ) : Type 0 where
   pub small : (x : ℕ) → Memᴰ x waiting → x < 4096
 
 -- Nothing is marked, and none waits.
-pub record Blank (marks waiting : List ℕ) : Type 0 where
+pub record NothingReached (marks waiting : List ℕ) : Type 0 where
   pub size : length marks ≡ 4096
   pub unmarked : (x : ℕ) → at marks x ≡ 0
   pub none_waits : waiting ≡ []

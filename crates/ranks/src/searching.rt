@@ -6,7 +6,7 @@ ghost use Rattle.rules.specs.Refusals.{accepted};
 ghost use Rattle.rules.specs.Decks.{symbol_words, clause_words, open_deck};
 ghost use Rattle.rules.specs.Ranks.{rests_on};
 ghost use Rattle.clauses.specs.Clauses.{ClauseAt};
-ghost use Rattle.ranks.specs.Searching.{Ready, Blank, Begun, Raised, Follows, Popped, CircleSays, Named};
+ghost use Rattle.ranks.specs.Searching.{Ready, NothingReached, Begun, Raised, Follows, Popped, CircleSays, Named};
 
 use crate::literals::literal;
 use arrayvec::ArrayVec;
@@ -24,7 +24,7 @@ struct Search {
 impl Search {
     // Nothing is marked.
     fn blank() -> Search
-        ensures { Blank result.marks result.waiting.items }
+        ensures { NothingReached result.marks result.waiting.items }
     {
         Search {
             marks: [0; 4096],

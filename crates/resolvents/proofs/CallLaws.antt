@@ -25,11 +25,11 @@ use Rattle.matching.proofs.CellLaws.{args-functor}
 use Rattle.resolvents.specs.Naming.{within}
 use Rattle.resolvents.specs.Variables.{fresh_cell}
 use Rattle.resolvents.specs.Deriving.{Calls, About, leading_symbol, equations_of, IsAttempt}
-use Rattle.resolvents.specs.Child.{AttemptedBy, place_after, literals_before, Together}
+use Rattle.resolvents.specs.Child.{AttemptedBy, place_after, literals_before, GoalThenClause}
 use Rattle.resolvents.specs.declared.resolve.Resolved.{Resolved}
 use Rattle.std.specs.Prelude as std
 use Rattle.resolvents.proofs.CellTrees.{lit_terms, lits-append, lits-sizes, lits-vars, lits-renames, join-fits, split-fits, goal_terms, goal-cells, goal-vars, clause_terms, clause-cells, Known, positive-known, literals-fit}
-use Rattle.resolvents.proofs.RowLaws.{Stands, stands-room, stands_from, stands-taken, stands-within, stands_after, stands-first, stands-second, stands-head, stands-cell, stands-arguments, terms-formed, terms-fresh, renames-fit, fresh-tops, cells-below, goal-fits, goal-few}
+use Rattle.resolvents.proofs.RowLaws.{TermsStand, stands-room, stands_from, stands-taken, stands-within, stands_after, stands-first, stands-second, stands-head, stands-cell, stands-arguments, terms-formed, terms-fresh, renames-fit, fresh-tops, cells-below, goal-fits, goal-few}
 use Rattle.resolvents.proofs.LeadingLaws.{none-leads, some-leads, variable-leads, leads-some}
 use Rattle.resolvents.proofs.ResolventLaws.{attempted-resolvent}
 
@@ -53,17 +53,17 @@ count-sizes : (ts : Terms) → count ts ≤ sizes ts
 count-sizes nil = omega arith
 count-sizes (cons t ts) = omega (arith, size-pos t, count-sizes ts)
 
-module _ {ar cells : List ℕ} {size answers s e n : ℕ} {S : List Symbol} {g : Goal} {before : List Literal} {p : ℕ} {ts : Terms} {after : List Literal}
-    (k : Calls ar cells (record { len = size; answers = answers; s = s; e = e }) n S g before p ts after) where
+module _ {ar cells : List ℕ} {size answer_cells s e n : ℕ} {S : List Symbol} {g : Goal} {before : List Literal} {p : ℕ} {ts : Terms} {after : List Literal}
+    (k : Calls ar cells (record { len = size; answer_cells = answer_cells; s = s; e = e }) n S g before p ts after) where
   -- THE GOAL
   abbrev parts : Terms
-  parts = g.answers +++ (lit_terms before +++ cons (app p ts) (lit_terms after))
+  parts = g.answer_terms +++ (lit_terms before +++ cons (app p ts) (lit_terms after))
 
   goal-parts : goal_terms g ≡ parts
-  goal-parts = ap (g.answers +++◌) (ap lit_terms k.literals ∙ lits-append before (pos p ts ∷ after))
+  goal-parts = ap (g.answer_terms +++◌) (ap lit_terms k.literals ∙ lits-append before (pos p ts ∷ after))
 
-  parts-fit : Fits ar g.answers × Fits ar (lit_terms before +++ cons (app p ts) (lit_terms after))
-  parts-fit = split-fits ar g.answers _ (rw goal-parts at (goal-fits k.goal))
+  parts-fit : Fits ar g.answer_terms × Fits ar (lit_terms before +++ cons (app p ts) (lit_terms after))
+  parts-fit = split-fits ar g.answer_terms _ (rw goal-parts at (goal-fits k.goal))
 
   literals-parts : Fits ar (lit_terms before) × Fits ar (cons (app p ts) (lit_terms after))
   literals-parts = split-fits ar (lit_terms before) _ parts-fit.1
@@ -74,30 +74,30 @@ module _ {ar cells : List ℕ} {size answers s e n : ℕ} {S : List Symbol} {g :
   parts-size : size ≡ sizes parts
   parts-size = omega (arith, length-take-le size cells k.inside, ap length goal-row, terms-length parts [])
 
-  goal-size : size ≡ sizes g.answers + (sizes (lit_terms before) + (suc (sizes ts) + sizes (lit_terms after)))
+  goal-size : size ≡ sizes g.answer_terms + (sizes (lit_terms before) + (suc (sizes ts) + sizes (lit_terms after)))
   goal-size =
       parts-size
-      ∙ sizes-join g.answers (lit_terms before +++ cons (app p ts) (lit_terms after))
-      ∙ ap (sizes g.answers +◌) (sizes-join (lit_terms before) (cons (app p ts) (lit_terms after)))
+      ∙ sizes-join g.answer_terms (lit_terms before +++ cons (app p ts) (lit_terms after))
+      ∙ ap (sizes g.answer_terms +◌) (sizes-join (lit_terms before) (cons (app p ts) (lit_terms after)))
 
-  starts : s ≡ answers + sizes (lit_terms before)
+  starts : s ≡ answer_cells + sizes (lit_terms before)
   starts = omega (arith, k.span.start, k.goal.wide, lits-sizes before)
 
   -- What stands where in cells that begin with the goal's.
-  module _ {cs rest : List ℕ} (h : Stands cs 0 parts rest) where
-    at-answers : Stands cs 0 g.answers (write_terms (lit_terms before +++ cons (app p ts) (lit_terms after)) rest)
-    at-answers = stands-first g.answers _ h
+  module _ {cs rest : List ℕ} (h : TermsStand cs 0 parts rest) where
+    at-answers : TermsStand cs 0 g.answer_terms (write_terms (lit_terms before +++ cons (app p ts) (lit_terms after)) rest)
+    at-answers = stands-first g.answer_terms _ h
 
-    at-literals : Stands cs answers (lit_terms before +++ cons (app p ts) (lit_terms after)) rest
-    at-literals = stands-second g.answers _ h answers (k.goal.wide ∙ omega arith)
+    at-literals : TermsStand cs answer_cells (lit_terms before +++ cons (app p ts) (lit_terms after)) rest
+    at-literals = stands-second g.answer_terms _ h answer_cells (k.goal.wide ∙ omega arith)
 
-    at_literal : Stands cs s (cons (app p ts) (lit_terms after)) rest
+    at_literal : TermsStand cs s (cons (app p ts) (lit_terms after)) rest
     at_literal = stands-second (lit_terms before) _ at-literals s starts
 
-    at_after : Stands cs e (lit_terms after) rest
+    at_after : TermsStand cs e (lit_terms after) rest
     at_after = stands-second (cons (app p ts) nil) (lit_terms after) at_literal e (k.span.end ∙ ap (s +◌) (omega arith))
 
-  goal-stands : Stands (take size cells) 0 parts []
+  goal-stands : TermsStand (take size cells) 0 parts []
   goal-stands = record { inside = omega arith; there = goal-row }
 
   -- THE PREDICATE
@@ -218,10 +218,10 @@ module _ {ar cells : List ℕ} {size answers s e n : ℕ} {S : List Symbol} {g :
 
     -- BOTH TOGETHER
     module _ {both : List ℕ} (q : both ≡ take size cells ++ map (fresh_cell n) clause) where
-      both-stands : Stands both 0 parts (write_terms renamed [])
+      both-stands : TermsStand both 0 parts (write_terms renamed [])
       both-stands = record { inside = omega arith; there = q ∙ ap₂ ◌++◌ goal-row renamed-row ∙ sym (write-append parts (write_terms renamed [])) }
 
-      at-clause : Stands both size renamed []
+      at-clause : TermsStand both size renamed []
       at-clause = stands_after both-stands renamed [] size refl (omega (arith, parts-size))
 
       both-row : both ≡ write_terms (parts +++ renamed) []
@@ -250,10 +250,10 @@ module _ {ar cells : List ℕ} {size answers s e n : ℕ} {S : List Symbol} {g :
             clause-tops,
           )
 
-      at-terms : Stands both (s + 1) ts (write_terms (lit_terms after) (write_terms renamed []))
+      at-terms : TermsStand both (s + 1) ts (write_terms (lit_terms after) (write_terms renamed []))
       at-terms = stands-arguments (at_literal both-stands)
 
-      at-arguments : Stands both (size + 1) (fresh n c.arguments) (write_terms body [])
+      at-arguments : TermsStand both (size + 1) (fresh n c.arguments) (write_terms body [])
       at-arguments = stands-arguments at-clause
 
       module _ {number : ℕ} (w : number ≡ args_of ar (get_or cells s 0)) where
@@ -266,7 +266,7 @@ module _ {ar cells : List ℕ} {size answers s e n : ℕ} {S : List Symbol} {g :
         arguments-taken : take_t number (from ar both (size + 1)) ≡ fresh n c.arguments
         arguments-taken = stands-taken at-arguments ar number renamed-fits.0.3 (sym arguments-count)
 
-        pub call-together : Together ar both (record { len = size; answers = answers; s = s; e = e }) number
+        pub call-together : GoalThenClause ar both (record { len = size; answer_cells = answer_cells; s = s; e = e }) number
         call-together = record {
           formed = subst (Formed ar) (sym both-row) (terms-formed ar (parts +++ renamed) both-fits (subst (λ cs. length cs < 65536) both-row both-short));
           few = both_below;
@@ -279,10 +279,10 @@ module _ {ar cells : List ℕ} {size answers s e n : ℕ} {S : List Symbol} {g :
         }
 
       -- The ranges: the answer terms, the literals before, the body, the literals after.
-      answers-range : within ar both 0 answers ≡ g.answers
-      answers-range = stands-within (at-answers both-stands) ar answers parts-fit.0 (k.goal.wide ∙ omega arith)
+      answers-range : within ar both 0 answer_cells ≡ g.answer_terms
+      answers-range = stands-within (at-answers both-stands) ar answer_cells parts-fit.0 (k.goal.wide ∙ omega arith)
 
-      before-range : within ar both answers s ≡ lit_terms before
+      before-range : within ar both answer_cells s ≡ lit_terms before
       before-range = stands-within (stands-first (lit_terms before) _ (at-literals both-stands)) ar s literals-parts.0 starts
 
       after-range : within ar both e size ≡ lit_terms after
@@ -291,13 +291,13 @@ module _ {ar cells : List ℕ} {size answers s e n : ℕ} {S : List Symbol} {g :
       head-after : place_after ar both size ≡ size + suc (sizes (fresh n c.arguments))
       head-after = ap (λ us. size + Rattle.rules.specs.Terms.size (head_t us)) (stands_from at-clause ar renamed-fits)
 
-      at_body : Stands both (place_after ar both size) body []
+      at_body : TermsStand both (place_after ar both size) body []
       at_body = stands-second (cons (app c.predicate (fresh n c.arguments)) nil) body at-clause (place_after ar both size) (head-after ∙ ap (size +◌) (omega arith))
 
       body-range : within ar both (place_after ar both size) (length both) ≡ body
       body-range = stands-within at_body ar (length both) renamed-fits.1 (omega (arith, stands-room at_body))
 
-      literals-range : literals_before ar both (record { len = size; answers = answers; s = s; e = e }) ≡ lit_terms (place before (map_literals (fresh n) c.body) after)
+      literals-range : literals_before ar both (record { len = size; answer_cells = answer_cells; s = s; e = e }) ≡ lit_terms (place before (map_literals (fresh n) c.body) after)
       literals-range =
           ap₂ ◌+++◌ before-range (ap₂ ◌+++◌ after-range body-range)
           ∙ ap (lit_terms before +++◌) (sym (lits-append after (map_literals (fresh n) c.body)))
@@ -306,9 +306,9 @@ module _ {ar cells : List ℕ} {size answers s e n : ℕ} {S : List Symbol} {g :
       -- What is written of them is the resolvent.
       pub call-resolved :
           {number : ℕ} (w : number ≡ args_of ar (get_or cells s 0)) (left : ℕ) (child : List ℕ) (r : std.Option (Resolved × ℕ))
-          → AttemptedBy (unify (take_t number (from ar both (s + 1))) (take_t number (from ar both (size + 1)))) left (within ar both 0 answers) (literals_before ar both (record { len = size; answers = answers; s = s; e = e })) child r
-          → IsAttempt (resolvent n g.answers before ts after c) (equations_of n ts c) left child r
+          → AttemptedBy (unify (take_t number (from ar both (s + 1))) (take_t number (from ar both (size + 1)))) left (within ar both 0 answer_cells) (literals_before ar both (record { len = size; answer_cells = answer_cells; s = s; e = e })) child r
+          → IsAttempt (resolvent n g.answer_terms before ts after c) (equations_of n ts c) left child r
       unfolding resolvent
       call-resolved w left child r h =
-          attempted-resolvent g.answers (place before (map_literals (fresh n) c.body) after) left child r (unify ts (fresh n c.arguments))
+          attempted-resolvent g.answer_terms (place before (map_literals (fresh n) c.body) after) left child r (unify ts (fresh n c.arguments))
           (transport (λ i. AttemptedBy (unify (terms-taken w i) (arguments-taken w i)) left (answers-range i) (literals-range i) child r) h)

@@ -66,17 +66,17 @@ split-fits ar (cons t ts) us f = let r = split-fits ar ts us f.1 in ((f.0, r.0),
 
 -- A goal's terms: the answer terms, and then the literals.
 abbrev pub goal_terms : Goal → Terms
-goal_terms g = g.answers +++ lit_terms g.literals
+goal_terms g = g.answer_terms +++ lit_terms g.literals
 
 pub goal-cells : (g : Goal) → goal_cells g ≡ write_terms (goal_terms g) []
 unfolding goal_cells
-goal-cells g = ap (write_terms g.answers) (sym (lits-cells g.literals)) ∙ sym (write-join g.answers (lit_terms g.literals) [])
+goal-cells g = ap (write_terms g.answer_terms) (sym (lits-cells g.literals)) ∙ sym (write-join g.answer_terms (lit_terms g.literals) [])
 
 pub goal-vars : (g : Goal) → vars_terms (goal_terms g) [] ≡ vars_goal g
-goal-vars g = vars-join g.answers (lit_terms g.literals) [] ∙ ap (vars_terms g.answers) (lits-vars g.literals)
+goal-vars g = vars-join g.answer_terms (lit_terms g.literals) [] ∙ ap (vars_terms g.answer_terms) (lits-vars g.literals)
 
-pub goal-applys : (es : Substitution) (g : Goal) → goal_terms (map_goal (applys es) g) ≡ applys es g.answers +++ applys es (lit_terms g.literals)
-goal-applys es g = ap (applys es g.answers +++◌) (lits-applys es g.literals)
+pub goal-applys : (es : Substitution) (g : Goal) → goal_terms (map_goal (applys es) g) ≡ applys es g.answer_terms +++ applys es (lit_terms g.literals)
+goal-applys es g = ap (applys es g.answer_terms +++◌) (lits-applys es g.literals)
 
 -- A clause's literals as terms.
 abbrev pub clause_terms : Clause → Terms

@@ -14,7 +14,7 @@ use Rattle.matching.specs.Bindings.{Places, elims, Ready}
 use Rattle.matching.proofs.CellLaws.{from_cons}
 use Rattle.resolvents.specs.Naming.{within, order_after, cells_under, Wrote}
 use Rattle.resolvents.specs.declared.resolve.Call.{Call}
-use Rattle.resolvents.specs.Child.{range_after, literals_after, IsChild, DerivedBy, place_after, literals_before, Together}
+use Rattle.resolvents.specs.Child.{range_after, literals_after, IsChild, DerivedBy, place_after, literals_before, GoalThenClause}
 use Rattle.std.specs.Prelude.{Option, Result, Ok, Err}
 use Rattle.resolvents.specs.declared.put.Full.{Full}
 use Rattle.resolvents.specs.declared.resolve.Resolved.{Resolved}
@@ -89,7 +89,7 @@ module _ (ar cells : List ℕ) (bs : Places) (trail : List ℕ) (n : ℕ) (call 
   literals-after : applys (elims ar cells bs trail n) (literals_before ar cells call) ≡ literals_after ar cells bs trail n call body
   literals-after =
       let es = elims ar cells bs trail n in
-      let B = within ar cells call.answers call.s in
+      let B = within ar cells call.answer_cells call.s in
       let C = within ar cells (place_after ar cells call.len) (length cells) in
       let D = within ar cells call.e call.len in
       applys-append es B (D +++ C)
@@ -98,26 +98,26 @@ module _ (ar cells : List ℕ) (bs : Places) (trail : List ℕ) (n : ℕ) (call 
 
   pub derived-solved :
       {o : Unification} (child : List ℕ) (r : Resolved) (k : ℕ) → o ≡ solved k (elims ar cells bs trail n)
-      → IsChild (range_after ar cells bs trail n 0 call.answers) (literals_after ar cells bs trail n call body) child r
-      → DerivedBy o (within ar cells 0 call.answers) (literals_before ar cells call) child r
+      → IsChild (range_after ar cells bs trail n 0 call.answer_cells) (literals_after ar cells bs trail n call body) child r
+      → DerivedBy o (within ar cells 0 call.answer_cells) (literals_before ar cells call) child r
   derived-solved child r k q h =
-      subst (λ u. DerivedBy u (within ar cells 0 call.answers) (literals_before ar cells call) child r) (sym q)
-      (subst (λ ts. IsChild (range_after ar cells bs trail n 0 call.answers) ts child r) (sym literals-after) h)
+      subst (λ u. DerivedBy u (within ar cells 0 call.answer_cells) (literals_before ar cells call) child r) (sym q)
+      (subst (λ ts. IsChild (range_after ar cells bs trail n 0 call.answer_cells) ts child r) (sym literals-after) h)
 
 -- The table of a run has room for the variables.
-pub rows-ready : {ar cells : List ℕ} {call : Call} {number : ℕ} {nv room marks : ℕ} → Together ar cells call number → nv ≡ 1280 → room ≡ 1280 → marks ≡ 1280 → Ready ar cells nv room marks
-rows-ready t bind trail marks =
+pub rows-ready : {ar cells : List ℕ} {call : Call} {number : ℕ} {nv room stamps : ℕ} → GoalThenClause ar cells call number → nv ≡ 1280 → room ≡ 1280 → stamps ≡ 1280 → Ready ar cells nv room stamps
+rows-ready t bind trail stamps =
     record {
       formed = t.formed;
       named = λ p l h. omega (arith, t.few p l h, bind);
       narrow = omega (arith, bind);
       trailed = omega (arith, bind, trail);
-      wide = omega (arith, bind, marks);
+      wide = omega (arith, bind, stamps);
     }
 
 -- The place after the clause's head.
 pub head-ends :
-    {ar cells : List ℕ} {call : Call} {number : ℕ} (r : ℕ) → Together ar cells call number → r ≤ length cells
+    {ar cells : List ℕ} {call : Call} {number : ℕ} (r : ℕ) → GoalThenClause ar cells call number → r ≤ length cells
     → from ar cells r ≡ drop_t 1 (from ar cells call.len) → r ≡ place_after ar cells call.len
 head-ends {ar} {cells} {call} r t l d =
     skipped ar cells call.len r (term_at ar cells call.len) (drop_t 1 (from ar cells call.len)) (omega (arith, t.clause)) l (from_cons ar cells call.len t.clause) d

@@ -47,7 +47,7 @@ leading-differs (cons (app h vs) ts) (cons (app g ws) us) rest f N e q l d = uni
 
 -- A clause that fails at its first equation gives nothing, and takes one.
 pub failed-attempt :
-    (n : ℕ) (answers : Terms) (before : List Literal) (ts : Terms) (after : List Literal) (c : Clause) (left : ℕ) (child : List ℕ) (r : std.Option (Resolved × ℕ))
-    → unify ts (fresh n c.arguments) ≡ fails 1 → IsAttempt none 1 left child r → IsAttempt (resolvent n answers before ts after c) (equations_of n ts c) left child r
+    (n : ℕ) (answer_terms : Terms) (before : List Literal) (ts : Terms) (after : List Literal) (c : Clause) (left : ℕ) (child : List ℕ) (r : std.Option (Resolved × ℕ))
+    → unify ts (fresh n c.arguments) ≡ fails 1 → IsAttempt none 1 left child r → IsAttempt (resolvent n answer_terms before ts after c) (equations_of n ts c) left child r
 unfolding resolvent resolved
-failed-attempt n answers before ts after c left child r e w = rw e w
+failed-attempt n answer_terms before ts after c left child r e w = rw e w

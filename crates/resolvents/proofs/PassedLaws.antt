@@ -22,7 +22,7 @@ use Rattle.resolvents.specs.Variables.{variables_in, NoneOf}
 use Rattle.resolvents.specs.Selecting.{GoalCells, Spans, Selects}
 use Rattle.resolvents.specs.declared.select.Selected.TheVariants.{Nothing, Positive, Negative}
 use Rattle.resolvents.proofs.CellTrees.{lit_term, lit_terms, literals-fit}
-use Rattle.resolvents.proofs.RowLaws.{skipped, Stands, stands-room, stands_from, stands-slice, stands-first, stands-second, stands-cell, terms-variables, variables-none, goal-stands}
+use Rattle.resolvents.proofs.RowLaws.{skipped, TermsStand, stands-room, stands_from, stands-slice, stands-first, stands-second, stands-cell, terms-variables, variables-none, goal-stands}
 
 -- Literals in front of what is selected after them.
 abbrev behinds : List Literal → Selection → Selection
@@ -67,8 +67,8 @@ select-behind p ts ls n = go (vars_terms ts []) refl
 -- The literals `before` are passed, and the literals `after` stand from `at` on.
 pub record Split (ar cells : List ℕ) (S : List Symbol) (g : Goal) (at : ℕ) (before after : List Literal) : Type 0 where
   pub split : g.literals ≡ before ++ after
-  pub place : at ≡ sizes g.answers + literal_sizes before
-  pub stands : Stands cells at (lit_terms after) []
+  pub place : at ≡ sizes g.answer_terms + literal_sizes before
+  pub stands : TermsStand cells at (lit_terms after) []
   pub well_formed : WfLiterals S after
   pub fits : Fits ar (lit_terms after)
   pub selects : select g.literals ≡ behinds before (select after)
@@ -78,14 +78,14 @@ pub record Passed (ar cells : List ℕ) (S : List Symbol) (g : Goal) (at : ℕ) 
   pub after : List Literal
   pub is : Split ar cells S g at before after
 
-pub passed_none : {ar cells : List ℕ} {answers : ℕ} {S : List Symbol} {g : Goal} → GoalCells ar cells answers S g → Passed ar cells S g answers
-passed_none {ar} {cells} {answers} {S} {g} h = record {
+pub passed_none : {ar cells : List ℕ} {answer_cells : ℕ} {S : List Symbol} {g : Goal} → GoalCells ar cells answer_cells S g → Passed ar cells S g answer_cells
+passed_none {ar} {cells} {answer_cells} {S} {g} h = record {
   before = [];
   after = g.literals;
   is = record {
     split = refl;
     place = h.wide ∙ omega arith;
-    stands = stands-second g.answers (lit_terms g.literals) (goal-stands h) answers (h.wide ∙ omega arith);
+    stands = stands-second g.answer_terms (lit_terms g.literals) (goal-stands h) answer_cells (h.wide ∙ omega arith);
     well_formed = h.well_formed.literals;
     fits = literals-fit ar S h.symbols g.literals h.well_formed.literals;
     selects = refl;
@@ -124,7 +124,7 @@ module _ {ar cells : List ℕ} {S : List Symbol} {g : Goal} {at end : ℕ} (w : 
     ends : end ≡ at + size (lit_term l)
     ends = skipped ar cells at end (lit_term l) _ (omega (arith, w.inside)) w.within (stands_from d.stands ar d.fits) w.next
 
-    span : Spans g.answers before l at end
+    span : Spans g.answer_terms before l at end
     span = record { start = d.place; end = ends ∙ ap (at +◌) (lit-size l) }
 
     -- The variables in its cells.

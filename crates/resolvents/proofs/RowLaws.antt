@@ -54,14 +54,14 @@ take_count (cons t ts) us = ap (cons t) (take_count ts us)
 
 -- PLACES
 -- The cells of the terms us, and then others, stand from p on.
-pub record Stands (cells : List ℕ) (p : ℕ) (us : Terms) (rest : List ℕ) : Type 0 where
+pub record TermsStand (cells : List ℕ) (p : ℕ) (us : Terms) (rest : List ℕ) : Type 0 where
   pub inside : p ≤ length cells
   pub there : drop p cells ≡ write_terms us rest
 
-stands-start : {cells : List ℕ} {ts : Terms} → cells ≡ write_terms ts [] → Stands cells 0 ts []
+stands-start : {cells : List ℕ} {ts : Terms} → cells ≡ write_terms ts [] → TermsStand cells 0 ts []
 stands-start e = record { inside = omega arith; there = e }
 
-module _ {cells : List ℕ} {p : ℕ} {us : Terms} {rest : List ℕ} (s : Stands cells p us rest) where
+module _ {cells : List ℕ} {p : ℕ} {us : Terms} {rest : List ℕ} (s : TermsStand cells p us rest) where
   pub stands-head : get_or cells p 0 ≡ get_or (write_terms us rest) 0 0
   stands-head = let e : p + 0 ≡ p = omega arith in ap (λ n. get_or cells n 0) (sym e) ∙ sym (get_or-drop p cells 0 0) ∙ ap (λ l. get_or l 0 0) s.there
 
@@ -87,29 +87,29 @@ module _ {cells : List ℕ} {p : ℕ} {us : Terms} {rest : List ℕ} (s : Stands
   stands-within ar q f e = ap (λ n. within ar cells p n) e ∙ ap (reads ar) stands-slice ∙ reads-terms ar us f [] ∙ join-nil us
 
   -- What is after them.
-  pub stands_after : (vs : Terms) (rest' : List ℕ) (q : ℕ) → rest ≡ write_terms vs rest' → q ≡ p + sizes us → Stands cells q vs rest'
+  pub stands_after : (vs : Terms) (rest' : List ℕ) (q : ℕ) → rest ≡ write_terms vs rest' → q ≡ p + sizes us → TermsStand cells q vs rest'
   stands_after vs rest' q e h = record {
     inside = omega (arith, stands-room);
     there = ap (λ n. drop n cells) h ∙ sym (drop-drop (sizes us) p cells) ∙ ap (drop (sizes us)) s.there ∙ drop-terms us rest ∙ e;
   }
 
 -- Of two lists, the first; then the second.
-module _ {cells : List ℕ} {p : ℕ} (us vs : Terms) {rest : List ℕ} (s : Stands cells p (us +++ vs) rest) where
-  pub stands-first : Stands cells p us (write_terms vs rest)
+module _ {cells : List ℕ} {p : ℕ} (us vs : Terms) {rest : List ℕ} (s : TermsStand cells p (us +++ vs) rest) where
+  pub stands-first : TermsStand cells p us (write_terms vs rest)
   stands-first = record { inside = s.inside; there = s.there ∙ write-join us vs rest }
 
-  pub stands-second : (q : ℕ) → q ≡ p + sizes us → Stands cells q vs rest
+  pub stands-second : (q : ℕ) → q ≡ p + sizes us → TermsStand cells q vs rest
   stands-second q e = stands_after stands-first vs rest q refl e
 
 -- A functor, and then its arguments.
-module _ {cells : List ℕ} {p f : ℕ} {ts us : Terms} {rest : List ℕ} (s : Stands cells p (cons (app f ts) us) rest) where
+module _ {cells : List ℕ} {p f : ℕ} {ts us : Terms} {rest : List ℕ} (s : TermsStand cells p (cons (app f ts) us) rest) where
   stands-inside : p < length cells
   stands-inside = omega (arith, stands-room s)
 
   pub stands-cell : get_or cells p 0 ≡ f
   stands-cell = stands-head s
 
-  pub stands-arguments : Stands cells (p + 1) ts (write_terms us rest)
+  pub stands-arguments : TermsStand cells (p + 1) ts (write_terms us rest)
   stands-arguments = record { inside = omega (arith, stands-inside); there = sym (drop-drop 1 p cells) ∙ ap (drop 1) s.there }
 
 -- All cells of terms are in order.
@@ -191,13 +191,13 @@ cells-below ar ts f p l h =
 
 -- GOALS
 -- A goal's cells are those of its terms.
-module _ {ar cells : List ℕ} {answers : ℕ} {S : List Symbol} {g : Goal} (h : GoalCells ar cells answers S g) where
+module _ {ar cells : List ℕ} {answer_cells : ℕ} {S : List Symbol} {g : Goal} (h : GoalCells ar cells answer_cells S g) where
   pub goal-fits : Fits ar (goal_terms g)
   goal-fits =
-      join-fits ar g.answers (lit_terms g.literals) (terms-fit ar S h.symbols g.answers h.well_formed.answers)
+      join-fits ar g.answer_terms (lit_terms g.literals) (terms-fit ar S h.symbols g.answer_terms h.well_formed.answer_terms)
       (literals-fit ar S h.symbols g.literals h.well_formed.literals)
 
-  pub goal-stands : Stands cells 0 (goal_terms g) []
+  pub goal-stands : TermsStand cells 0 (goal_terms g) []
   goal-stands = stands-start (h.goal ∙ goal-cells g)
 
   pub goal-few : length cells ≤ 1022

@@ -31,32 +31,32 @@ none-of (c ∷ cs) = go (ltb c 32768) refl (none-of cs)
     }
 
 -- THE LEAST NUMBER ABOVE ALL VARIABLES: `top` of the variables before i.
-pub record Topped (cells : List ℕ) (top i : ℕ) : Type 0 where
+pub record AboveSoFar (cells : List ℕ) (top i : ℕ) : Type 0 where
   pub small : top ≤ 32768
   pub rest : max top (above (variables_in (drop i cells))) ≡ above (variables_in cells)
 
-pub topped-none : (cells : List ℕ) → Topped cells 0 0
+pub topped-none : (cells : List ℕ) → AboveSoFar cells 0 0
 topped-none cells = record { small = omega arith; rest = omega arith }
 
-module _ {cells : List ℕ} {top i : ℕ} (s : Topped cells top i) (l : i < length cells) where
+module _ {cells : List ℕ} {top i : ℕ} (s : AboveSoFar cells top i) (l : i < length cells) where
   step : above (variables_in (drop i cells)) ≡ above (variables_in (get_or cells i 0 ∷ drop (suc i) cells))
   step = ap (λ cs. above (variables_in cs)) (drop-cons cells i 0 l)
 
-  pub topped-more : {top' : ℕ} → 32768 ≤ get_or cells i 0 → get_or cells i 0 < 65536 → top' ≡ max top (get_or cells i 0 - 32768 + 1) → Topped cells top' (i + 1)
+  pub topped-more : {top' : ℕ} → 32768 ≤ get_or cells i 0 → get_or cells i 0 < 65536 → top' ≡ max top (get_or cells i 0 - 32768 + 1) → AboveSoFar cells top' (i + 1)
   topped-more h k e =
       record {
         small = omega arith;
         rest = rw (add-one i) (omega (arith, step, s.rest, ap above (variable-one (get_or cells i 0) (drop (suc i) cells) h)));
       }
 
-  pub topped-same : get_or cells i 0 < 32768 → Topped cells top (i + 1)
+  pub topped-same : get_or cells i 0 < 32768 → AboveSoFar cells top (i + 1)
   topped-same h =
       record {
         small = s.small;
         rest = rw (add-one i) (omega (arith, step, s.rest, ap above (variable-none (get_or cells i 0) (drop (suc i) cells) h)));
       }
 
-pub topped-all : {cells : List ℕ} {top i : ℕ} → Topped cells top i → length cells ≤ i → top ≡ above (variables_in cells)
+pub topped-all : {cells : List ℕ} {top i : ℕ} → AboveSoFar cells top i → length cells ≤ i → top ≡ above (variables_in cells)
 topped-all {cells} {top} {i} s l =
     let z : above (variables_in (drop i cells)) ≡ 0 = ap above (ap variables_in (drop_of_length-le cells l) ∙ variables-none) in
     omega (arith, s.rest)
@@ -88,6 +88,6 @@ module _ {clause cells₀ : List ℕ} {to n : ℕ} {cells : List ℕ} {i : ℕ} 
   copying-all l = sym (s.rest ∙ ap (λ cs. sets cells (to + i) (map (fresh_cell n) cs)) (drop_of_length-le clause l))
 
 -- What is found of a goal's cells.
-pub goal-topped : {ar cells : List ℕ} {answers : ℕ} {S : List Symbol} {g : Goal} → GoalCells ar cells answers S g → above (variables_in cells) ≡ top_goal g
-goal-topped {ar} {cells} {answers} {S} {g} h =
+pub goal-topped : {ar cells : List ℕ} {answer_cells : ℕ} {S : List Symbol} {g : Goal} → GoalCells ar cells answer_cells S g → above (variables_in cells) ≡ top_goal g
+goal-topped {ar} {cells} {answer_cells} {S} {g} h =
     ap above (ap variables_in (h.goal ∙ goal-cells g) ∙ terms-variables ar (goal_terms g) (goal-fits h) [] ∙ ap (vars_terms (goal_terms g)) variables-none ∙ goal-vars g) ∙ top_goal-above g

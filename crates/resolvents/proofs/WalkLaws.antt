@@ -13,7 +13,7 @@ use Rattle.rules.specs.Unification.{Substitution, done, bind, apply, applys}
 use Rattle.rules.proofs.TermLaws.{sizes-join, join-nil, subs-join, applys-nil, applys-cons, apply-app}
 use Rattle.matching.specs.Taking.{take_t, drop_t}
 use Rattle.matching.specs.Cells.{args_of, made, reads, from, term_at}
-use Rattle.matching.specs.Bindings.{Places, elims, Good, Final}
+use Rattle.matching.specs.Bindings.{Places, elims, Triangular, Final}
 use Rattle.matching.proofs.CellLaws.{args-functor, args-var, made-functor, made-var, count-reads, term_at-var}
 use Rattle.matching.proofs.SeenLaws.{open-var, open-functor}
 use Rattle.resolvents.specs.Naming.{within, shown, Named, Wrote}
@@ -140,7 +140,7 @@ range-seen : (es : Substitution) (ar cells : List ℕ) (p k : ℕ) → applys es
 range-seen es ar cells p k = rw take-length
 
 -- The term t is the one at q: a free variable, or a functor with its arguments.
-module _ {ar cells : List ℕ} {bs : Places} {trail : List ℕ} {n q : ℕ} {t : Term} (g : Good ar cells bs trail n) (f : Final cells bs q) (v : apply (elims ar cells bs trail n) (term_at ar cells q) ≡ t) where
+module _ {ar cells : List ℕ} {bs : Places} {trail : List ℕ} {n q : ℕ} {t : Term} (g : Triangular ar cells bs trail n) (f : Final cells bs q) (v : apply (elims ar cells bs trail n) (term_at ar cells q) ≡ t) where
   pub bound-variable : {out order : List ℕ} {to m : ℕ} {out' order' : List ℕ} {names' : List (Option ℕ)} {m' : ℕ} {r : Result ℕ Full} → 32768 ≤ get_or cells q 0
       → Wrote out order to m (cons (var (get_or cells q 0 - 32768)) nil) out' names' order' m' r → Wrote out order to m (cons t nil) out' names' order' m' r
   bound-variable l w = rw (← v, open-var g f l) w

@@ -19,7 +19,7 @@ range_after ar cells bs trail n p end = applys (elims ar cells bs trail n) (with
 -- The literals as terms: those before the selected one, those after it, and the clause's body from place `body` on.
 abbrev pub literals_after : List ℕ → List ℕ → Places → List ℕ → ℕ → Call → ℕ → Terms
 literals_after ar cells bs trail n call body =
-    range_after ar cells bs trail n call.answers call.s +++ (range_after ar cells bs trail n call.e call.len +++ range_after ar cells bs trail n body (length cells))
+    range_after ar cells bs trail n call.answer_cells call.s +++ (range_after ar cells bs trail n call.e call.len +++ range_after ar cells bs trail n body (length cells))
 
 -- The same by the bindings b.
 abbrev pub literals_by : Bound → Call → ℕ → Terms
@@ -28,7 +28,7 @@ literals_by b call body = literals_after b.terms.symbols.now b.terms.cells.now b
 -- Such ranges in the cells.
 pub record Ranges (cells : List ℕ) (call : Call) (body : ℕ) : Type 0 where
   pub inside : call.len ≤ length cells
-  pub answered : call.answers ≤ call.s
+  pub answered : call.answer_cells ≤ call.s
   pub selected : call.s ≤ call.len
   pub rest : call.e ≤ call.len
   pub clause : body ≤ length cells
@@ -63,13 +63,13 @@ place_after ar cells p = p + size (term_at ar cells p)
 -- The literals of `literals_after` before the eliminations; the clause's body begins after its head.
 abbrev pub literals_before : List ℕ → List ℕ → Call → Terms
 literals_before ar cells call =
-    within ar cells call.answers call.s +++ (within ar cells call.e call.len +++ within ar cells (place_after ar cells call.len) (length cells))
+    within ar cells call.answer_cells call.s +++ (within ar cells call.e call.len +++ within ar cells (place_after ar cells call.len) (length cells))
 
 -- A goal's cells and then a clause's: in order, over 1,280 variables, with `number` arguments of the literal and of the head.
-pub record Together (ar cells : List ℕ) (call : Call) (number : ℕ) : Type 0 where
+pub record GoalThenClause (ar cells : List ℕ) (call : Call) (number : ℕ) : Type 0 where
   pub formed : Formed ar cells
   pub few : (p : ℕ) → p < length cells → 32768 ≤ get_or cells p 0 → get_or cells p 0 - 32768 < 1280
-  pub answered : call.answers ≤ call.s
+  pub answered : call.answer_cells ≤ call.s
   pub selected : call.s < call.e
   pub rest : call.e ≤ call.len
   pub clause : call.len < length cells
@@ -79,4 +79,4 @@ pub record Together (ar cells : List ℕ) (call : Call) (number : ℕ) : Type 0 
 -- What unification makes of the first `number` terms of the literal and of the head, with the answer terms and the literals of the cells.
 abbrev pub ResolvesCells : List ℕ → List ℕ → Call → ℕ → ℕ → List ℕ → Option (Resolved × ℕ) → Type 0
 ResolvesCells ar cells call number left child r =
-    AttemptedBy (unified ar cells (call.s + 1) (call.len + 1) number) left (within ar cells 0 call.answers) (literals_before ar cells call) child r
+    AttemptedBy (unified ar cells (call.s + 1) (call.len + 1) number) left (within ar cells 0 call.answer_cells) (literals_before ar cells call) child r

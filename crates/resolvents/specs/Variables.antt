@@ -13,6 +13,6 @@ pub record NoneOf (vs : List ℕ) (r : Bool) : Type 0 where
   pub if-so : r ≡ true → vs ≡ []
   pub if-not : r ≡ false → vs ≡ [] → ⊥
 
--- A variable comes after n others.
+-- A variable comes after offset others.
 unfoldable pub fresh_cell : ℕ → ℕ → ℕ
-fresh_cell n c = ite (dec_lt c 32768) c (c + n)
+fresh_cell offset c = ite (dec_lt c 32768) c (c + offset)

@@ -9,7 +9,7 @@ use matching::cells::VARIABLE;
 
 // The least number above every variable of a goal.
 pub fn variables(cells: &[u16]) -> usize
-    ensures { (ar : List ℕ) (answers : ℕ) (S : List Symbol) (g : Goal) → GoalCells ar cells.now answers S g → result ≡ top_goal g }
+    ensures { (ar : List ℕ) (answer_cells : ℕ) (S : List Symbol) (g : Goal) → GoalCells ar cells.now answer_cells S g → result ≡ top_goal g }
 {
     let mut top = 0;
     for &cell in cells {
@@ -20,14 +20,14 @@ pub fn variables(cells: &[u16]) -> usize
     top
 }
 
-// Copies the cells of a clause to place `to`, its variables after the n of the goal.
-pub fn copy_fresh(clause: &[u16], cells: &mut [u16], to: usize, n: u16)
+// Copies the cells of a clause to place `to`, its variables after the offset of the goal.
+pub fn copy_fresh(clause: &[u16], cells: &mut [u16], to: usize, offset: u16)
     requires clause_in_bounds { to + length clause.now ≤ length cells.old }
-    requires by_index { (i : ℕ) → i < length clause.now → get_or clause.now i 0 + n < 65536 }
-    ensures { cells.new ≡ sets cells.old to (map (fresh_cell n) clause.now) }
+    requires by_index { (i : ℕ) → i < length clause.now → get_or clause.now i 0 + offset < 65536 }
+    ensures { cells.new ≡ sets cells.old to (map (fresh_cell offset) clause.now) }
 {
     // By index: with `zip` over `iter_mut` the loop's invariant names the cells lent so far (`yielded`), and not `cells`.
     for (i, &c) in clause.iter().enumerate() {
-        cells[to + i] = if c < VARIABLE { c } else { c + n };
+        cells[to + i] = if c < VARIABLE { c } else { c + offset };
     }
 }

@@ -3,7 +3,7 @@
 ghost use Rattle.std.specs.Prelude.{◌≡◌, ◌+◌, ◌≤◌, ◌<◌, true, false, length, take, get_or, IfSome};
 ghost use Rattle.resolvents.specs.Naming.{all_by};
 ghost use Rattle.resolvents.specs.Deriving.{Rows, SomeGoalCall, SomeCall, BeginsWith, FailsFirst, ResolvesClause};
-ghost use Rattle.resolvents.specs.Child.{literals_by, Ranges, GoalWritten, IsChild, Together, ResolvesCells};
+ghost use Rattle.resolvents.specs.Child.{literals_by, Ranges, GoalWritten, IsChild, GoalThenClause, ResolvesCells};
 
 use crate::fresh::copy_fresh;
 use crate::put::{Draft, Full};
@@ -26,7 +26,7 @@ pub enum Resolved {
 #[derive(Clone, Copy)]
 pub struct Call {
     pub len: usize,
-    pub answers: usize,
+    pub answer_cells: usize,
     pub s: usize,
     pub e: usize,
 }
@@ -70,12 +70,12 @@ impl Origin<'_> {
     // Writes the cells of the derived goal from place 2 on: its answer terms; the literals before the selected one; those after it; and
     // the clause's body. The result is the place after them, and how many are the answer terms'.
     fn put_goal(&self, draft: &mut Draft) -> Result<(usize, usize), Full>
-        ensures { GoalWritten draft.old.child draft.old.order draft.old.named (all_by self.now.bound 0 self.now.call.answers) (literals_by self.now.bound self.now.call self.now.body) draft.new.child draft.new.names draft.new.order draft.new.named result }
+        ensures { GoalWritten draft.old.child draft.old.order draft.old.named (all_by self.now.bound 0 self.now.call.answer_cells) (literals_by self.now.bound self.now.call self.now.body) draft.new.child draft.new.names draft.new.order draft.new.named result }
     {
         let bound = &self.bound;
         let call = self.call;
-        let first = draft.put_range(bound, 0, call.answers, 2)?;
-        let before = draft.put_range(bound, call.answers, call.s, first)?;
+        let first = draft.put_range(bound, 0, call.answer_cells, 2)?;
+        let before = draft.put_range(bound, call.answer_cells, call.s, first)?;
         let after = draft.put_range(bound, call.e, call.len, before)?;
         let end = draft.put_range(bound, self.body, bound.terms.cells.len(), after)?;
         Ok((end, first - 2))
@@ -84,7 +84,7 @@ impl Origin<'_> {
     // Writes the derived goal: its answer terms, its literals, and the two first words.
     fn write_child(&self, draft: &mut Draft) -> Resolved
         requires none_before { draft.old.named ≡ 0 }
-        ensures child { IsChild (all_by self.now.bound 0 self.now.call.answers) (literals_by self.now.bound self.now.call self.now.body) draft.new.child result }
+        ensures child { IsChild (all_by self.now.bound 0 self.now.call.answer_cells) (literals_by self.now.bound self.now.call self.now.body) draft.new.child result }
         ensures none_after { draft.new.named ≡ 0 }
     {
         let written = self.put_goal(draft);
@@ -111,7 +111,7 @@ fn resolve_cells(
     table: &mut Table,
     draft: &mut Draft,
 ) -> Option<(Resolved, u32)>
-    requires together { Together symbols.now cells.now call number }
+    requires together { GoalThenClause symbols.now cells.now call number }
     requires rows { Rows table.old draft.old }
     ensures attempted_by { ResolvesCells symbols.now cells.now call number left draft.new.child result }
     ensures rows_after { Rows table.new draft.new }
@@ -139,18 +139,18 @@ pub fn resolve_clause(
     symbols: &[u16],
     work: &mut Workspace,
     call: Call,
-    n: usize,
+    offset: usize,
     clause: &[u16],
     left: u32,
 ) -> Option<(Resolved, u32)>
-    requires { SomeCall symbols.now work.old.cells.now clause.now call n }
-    ensures attempt { ResolvesClause symbols.now work.old.cells.now call n clause.now left work.new.draft.child result }
+    requires { SomeCall symbols.now work.old.cells.now clause.now call offset }
+    ensures attempt { ResolvesClause symbols.now work.old.cells.now call offset clause.now left work.new.draft.child result }
     ensures cells_unchanged { take call.len work.new.cells.now ≡ take call.len work.old.cells.now }
 {
     let Call { len, s, .. } = call;
     let number = arity_of(symbols, usize::from(work.cells[s]));
     let cells = &mut *work.cells;
-    copy_fresh(clause, cells, len, n as u16);
+    copy_fresh(clause, cells, len, offset as u16);
     let total = len + clause.len();
     let cells: &[u16] = cells;
     let table = &mut work.table;

@@ -23,13 +23,13 @@ fn ground(cells: &[u16]) -> bool
     cells.iter().all(|&c| c < VARIABLE)
 }
 
-// The leftmost literal that is positive, or negative without variables. The literals begin at place `answers`.
-pub fn select_literal(cells: &[u16], symbols: &[u16], answers: usize) -> Selected
-    requires { SomeGoal symbols.now cells.now answers }
-    ensures { (S : List Symbol) (g : Goal) → GoalCells symbols.now cells.now answers S g → Selects g (select g.literals) result }
+// The leftmost literal that is positive, or negative without variables. The literals begin at place `answer_cells`.
+pub fn select_literal(cells: &[u16], symbols: &[u16], answer_cells: usize) -> Selected
+    requires { SomeGoal symbols.now cells.now answer_cells }
+    ensures { (S : List Symbol) (g : Goal) → GoalCells symbols.now cells.now answer_cells S g → Selects g (select g.literals) result }
 {
     let terms = FlatTerms { cells, symbols };
-    let mut at = answers;
+    let mut at = answer_cells;
     // An iterator of literals would be a struct with ghost members of its own, for this one loop.
     while at < cells.len() {
         let end = terms.skip(at);

@@ -52,17 +52,17 @@ module _ (S : List Symbol) (words : List ℕ) (all : List Marked) (list₀ : Lis
   left-all a = record { goals = all; formed = a.formed; written = a.written; listed = refl }
 
   -- A goal is left where words are, and it is added.
-  pub record Next (list : List ℕ) (at n : ℕ) : Type 0 where
+  pub record NextGoal (list : List ℕ) (at n : ℕ) : Type 0 where
     pub few : 2 ≤ n
     pub inside : at + n ≤ length words
     pub after : (list' : List ℕ) → list' ≡ appearing list (named S (take (at + n - (at + 2)) (drop (at + 2) words))) → Left S words all list₀ list' (at + n)
 
-  pub left-next : (list : List ℕ) (at : ℕ) → Left S words all list₀ list at → at < length words → (n : ℕ) → n ≡ get_or words at 0 % 4096 → Next list at n
+  pub left-next : (list : List ℕ) (at : ℕ) → Left S words all list₀ list at → at < length words → (n : ℕ) → n ≡ get_or words at 0 % 4096 → NextGoal list at n
   unfolding write_goals
   left-next list at l h n e = go l.goals l.formed l.written l.listed
     where
       go : (goals : List Marked) → All (WfMarked S) goals → drop at words ≡ write_goals goals → appearing list (predicates (literals_of goals)) ≡ appearing list₀ (predicates (literals_of all))
-          → Next list at n
+          → NextGoal list at n
       go [] f w q = absurd (omega (arith, ap length w, length-drop at words))
       go (m ∷ ms) f w q =
           let s = goal-size S m f.0 words (write_goals ms) at w in

@@ -46,7 +46,7 @@ module _ (S : List Symbol) where
       ∙ literals-name S c.body w.literals.1
 
   pub goal-names : (g : Goal) → WfGoal S g → named S (goal_cells g) ≡ predicates g.literals
-  goal-names g w = named-cells (goal_cells g) ∙ goal_names_lem S g w.answers w.literals
+  goal-names g w = named-cells (goal_cells g) ∙ goal_names_lem S g w.answer_terms w.literals
 
 -- What is named is one of the symbols.
 elem-below : (S : List Symbol) (i : ℕ) (s : Symbol) → get_elem? S i ≡ some s → i < length S

@@ -148,10 +148,10 @@ held-parked zeroth l m g gs p = omega (arith, ap words_of p, marked_words-append
 held-parked (deeper outer) l m g gs p = omega (arith, ap words_of p)
 
 literal-lost : (g : Goal) (before after : List Literal) (p : ℕ) (ts : Terms) → select g.literals ≡ negative before p ts after
-    → goal_words (record { answers = g.answers; literals = before ++ after }) ≤ goal_words g
+    → goal_words (record { answer_terms = g.answer_terms; literals = before ++ after }) ≤ goal_words g
 literal-lost g before after p ts e =
     let s : Selected g.literals (negative before p ts after) = rw e at (select-selected g.literals) in
-    omega (arith, without-shorter g.answers before (neg p ts) after, ap (λ ls. goal_words (record { answers = g.answers; literals = ls })) s.0)
+    omega (arith, without-shorter g.answer_terms before (neg p ts) after, ap (λ ls. goal_words (record { answer_terms = g.answer_terms; literals = ls })) s.0)
 
 module _ {clauses : List Clause} {answer_room store_size : ℕ} where
   store_step : {below left : ℕ} {at : Place} {l l' : Level} → Ahead clauses answer_room store_size below at l left (step l')
@@ -167,7 +167,7 @@ module _ {clauses : List Clause} {answer_room store_size : ℕ} where
     omega (arith, held_first at l g gs gs p (omega arith)),
     omega (
       arith,
-      held_first at l g gs (record { answers = g.answers; literals = before ++ after } ∷ gs) p
+      held_first at l g gs (record { answer_terms = g.answer_terms; literals = before ++ after } ∷ gs) p
           (omega (arith, literal-lost g before after r ts e)),
     ),
     omega (arith, held-parked at l undecided g gs p),

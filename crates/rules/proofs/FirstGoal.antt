@@ -65,7 +65,7 @@ unfolding first_goal query_variables
 first_goal-wf S q w =
     let vs = vars_literals q in
     record {
-      answers = variables-wf S (appearing [] vs);
+      answer_terms = variables-wf S (appearing [] vs);
       literals = w.literals;
       in_order =
           ap (numbered 0) (variables-vars (appearing [] vs) vs ∙ ap (◌++ vs) (numbered-appearing vs w.in_order))

@@ -160,6 +160,6 @@ pub clause-names : (S : List Symbol) (c : Clause) → WfClause S c → named_cel
 unfolding write_clause
 clause-names S c w = literals-name S (pos c.predicate c.arguments ∷ c.body) w.literals
 
-pub goal-names : (S : List Symbol) (g : Goal) → WfTerms S g.answers → WfLiterals S g.literals → named_cells S (goal_cells g) ≡ predicates g.literals
+pub goal-names : (S : List Symbol) (g : Goal) → WfTerms S g.answer_terms → WfLiterals S g.literals → named_cells S (goal_cells g) ≡ predicates g.literals
 unfolding goal_cells
-goal-names S g a l = ap predicates (terms-begin S g.answers (write_literals g.literals) a) ∙ literals-name S g.literals l
+goal-names S g a l = ap predicates (terms-begin S g.answer_terms (write_literals g.literals) a) ∙ literals-name S g.literals l

@@ -69,17 +69,17 @@ literals-size (l ∷ ls) ms = omega (arith, literals-size ls ms)
 
 module _ (ans : Terms) (before : List Literal) (l : Literal) (after : List Literal) where
   abbrev whole : Goal
-  whole = record { answers = ans; literals = before ++ (l ∷ after) }
+  whole = record { answer_terms = ans; literals = before ++ (l ∷ after) }
 
   abbrev rest : Goal
-  rest = record { answers = ans; literals = before ++ after }
+  rest = record { answer_terms = ans; literals = before ++ after }
 
   pub without-shorter : goal_words rest < goal_words whole
   without-shorter = omega (arith, goal-words rest, goal-words whole, literals-size before after, literals-size before (l ∷ after))
 
-  pub atom-shorter : (p : ℕ) → goal_words (record { answers = nil; literals = pos p (arguments l) ∷ [] }) ≤ goal_words whole
+  pub atom-shorter : (p : ℕ) → goal_words (record { answer_terms = nil; literals = pos p (arguments l) ∷ [] }) ≤ goal_words whole
   atom-shorter p =
-      omega (arith, goal-words (record { answers = nil; literals = pos p (arguments l) ∷ [] }), goal-words whole, literals-size before (l ∷ after))
+      omega (arith, goal-words (record { answer_terms = nil; literals = pos p (arguments l) ∷ [] }), goal-words whole, literals-size before (l ∷ after))
 
 -- A cell of a negated predicate is that predicate's number plus 16,384.
 symbol-positive : (p k : ℕ) (o : Option Symbol) → negated_cell p o ≡ negative p k → symbol_cell p o ≡ positive p k
@@ -225,7 +225,7 @@ module _ (S : List Symbol) where
   -- RESOLUTION
   -- A goal that is well formed but for its numbering and its size; but for its size.
   pub record Formed (g : Goal) : Type 0 where
-    pub answers : WfTerms S g.answers
+    pub answer_terms : WfTerms S g.answer_terms
     pub literals : WfLiterals S g.literals
 
   abbrev pub Derived : Goal → Type 0
@@ -233,7 +233,7 @@ module _ (S : List Symbol) where
 
   map_goal-formed : (F : Terms → Terms) → ((ts : Terms) → count (F ts) ≡ count ts) → Keeps F → (g : Goal) → Formed g → Formed (map_goal F g)
   map_goal-formed F same keeps g h =
-      record { answers = keeps g.answers h.answers; literals = literals-wf F same keeps g.literals h.literals }
+      record { answer_terms = keeps g.answer_terms h.answer_terms; literals = literals-wf F same keeps g.literals h.literals }
 
   pub renumber-formed : (g : Goal) → Formed g → Formed (renumber g)
   unfolding renumber
@@ -254,7 +254,7 @@ module _ (S : List Symbol) where
       → (c : Clause) → WfLiterals S (clause_literals c) → Perhaps Derived (resolvent N ans before ts after c)
   unfolding resolvent
   resolvent-derived N ans before p ts after wa wl c wc =
-      resolved-derived (record { answers = ans; literals = place before body after }) (record { answers = wa; literals = literals })
+      resolved-derived (record { answer_terms = ans; literals = place before body after }) (record { answer_terms = wa; literals = literals })
       (unify ts (fresh N c.arguments)) (unify-wf ts (fresh N c.arguments) parts.1.0.1 (renames-wf (λ v. N + v) c.arguments wc.0.1))
     where
       body : List Literal
@@ -274,15 +274,15 @@ module _ (S : List Symbol) where
       pub resolvents-derived : All Derived (resolvents clauses g before p ts after)
       unfolding resolvents
       resolvents-derived =
-          collect-all Derived (WfClause S) (resolvent (top_goal g) g.answers before ts after)
-          (λ c w. resolvent-derived (top_goal g) g.answers before p ts after h.answers (rw e at h.literals) c w.literals)
+          collect-all Derived (WfClause S) (resolvent (top_goal g) g.answer_terms before ts after)
+          (λ c w. resolvent-derived (top_goal g) g.answer_terms before p ts after h.answer_terms (rw e at h.literals) c w.literals)
           (clauses_about p clauses) (about-all (WfClause S) p clauses wf)
 
       pub resolvents-wf : any_oversized (resolvents clauses g before p ts after) ≡ false → All (WfGoal S) (resolvents clauses g before p ts after)
       resolvents-wf none_over =
           let ds : List Goal = resolvents clauses g before p ts after in
           all-weaken (λ d. Derived d × (goal_words d ≤ 1024)) (WfGoal S)
-          (λ d w. record { answers = w.0.0.answers; literals = w.0.0.literals; in_order = w.0.1; short = w.1 }) ds
+          (λ d w. record { answer_terms = w.0.0.answer_terms; literals = w.0.0.literals; in_order = w.0.1; short = w.1 }) ds
           (all_both Derived (λ d. goal_words d ≤ 1024) ds resolvents-derived (short-all ds none_over))
 
   -- The atom of a negative literal is well formed.

@@ -18,9 +18,9 @@ use Rattle.rules.specs.WellFormed.{All, WfTerms, WfLiterals, WfGoal, WfMarked}
 use Rattle.rules.proofs.CellLaws.{Small, literal_sizes, row-length, terms-vars, literals-vars, in_order-small, read-row, Reads, row_reads}
 
 -- The words that goals take.
-pub goal-words : (g : Goal) → goal_words g ≡ 2 + (sizes g.answers + literal_sizes g.literals)
+pub goal-words : (g : Goal) → goal_words g ≡ 2 + (sizes g.answer_terms + literal_sizes g.literals)
 unfolding goal_words goal_cells
-goal-words g = ap (2 +◌) (row-length g.answers g.literals)
+goal-words g = ap (2 +◌) (row-length g.answer_terms g.literals)
 
 pub goal-length : (m : Marked) → length (write_goal m) ≡ goal_words m.goal
 unfolding write_goal goal_words
@@ -57,7 +57,7 @@ unmarked-append (g ∷ gs) hs = ap {B = List Marked} (λ ms. marked pending g �
 pub goal-small : (S : List Symbol) (g : Goal) → WfGoal S g → All Small (vars_goal g)
 goal-small S g w =
     in_order-small (vars_goal g) w.in_order
-    (omega (arith, terms-vars g.answers (vars_literals g.literals), literals-vars g.literals, goal-words g, w.short))
+    (omega (arith, terms-vars g.answer_terms (vars_literals g.literals), literals-vars g.literals, goal-words g, w.short))
 
 -- What is written is read.
 mark-read : (m : Mark) → read_mark (mark_number m) ≡ some m
@@ -68,13 +68,13 @@ mark-read undecided = refl
 mark-read oversized = refl
 mark-read deep = refl
 
-goal-row : (S : List Symbol) (g : Goal) → WfGoal S g → read_row S (goal_cells g) ≡ some (row g.answers g.literals)
+goal-row : (S : List Symbol) (g : Goal) → WfGoal S g → read_row S (goal_cells g) ≡ some (row g.answer_terms g.literals)
 unfolding goal_cells
-goal-row S g w = read-row S g.answers g.literals w.answers w.literals (goal-small S g w)
+goal-row S g w = read-row S g.answer_terms g.literals w.answer_terms w.literals (goal-small S g w)
 
-as_goal-row : (m : Mark) (g : Goal) (rest : List ℕ) → as_goal (some m) (sizes g.answers) (some (row g.answers g.literals)) rest ≡ some (goal_read (marked m g) rest)
+as_goal-row : (m : Mark) (g : Goal) (rest : List ℕ) → as_goal (some m) (sizes g.answer_terms) (some (row g.answer_terms g.literals)) rest ≡ some (goal_read (marked m g) rest)
 unfolding as_goal
-as_goal-row m g rest = rw (eq-eqb (sizes g.answers) (sizes g.answers) refl, as_goal)
+as_goal-row m g rest = rw (eq-eqb (sizes g.answer_terms) (sizes g.answer_terms) refl, as_goal)
 
 -- A goal of n cells, and the words after it.
 goal-cut :
@@ -92,9 +92,9 @@ read-goal S m rest w =
     let n = length (goal_cells m.goal) in
     let short : 2 + n ≤ 1024 = w.short in
     let k : (2 + n + 4096 * mark_number m.mark) / 4096 ≡ mark_number m.mark = omega arith in
-    goal-cut S (2 + n + 4096 * mark_number m.mark) (sizes m.goal.answers) n (goal_cells m.goal ++ rest) (omega arith) (omega (arith, length-append (goal_cells m.goal) rest))
+    goal-cut S (2 + n + 4096 * mark_number m.mark) (sizes m.goal.answer_terms) n (goal_cells m.goal ++ rest) (omega arith) (omega (arith, length-append (goal_cells m.goal) rest))
     ∙ rw (k, mark-read, take_at (goal_cells m.goal) rest n refl, drop_at (goal_cells m.goal) rest n refl)
-    (ap (λ r. as_goal (some m.mark) (sizes m.goal.answers) r rest) (goal-row S m.goal w) ∙ as_goal-row m.mark m.goal rest)
+    (ap (λ r. as_goal (some m.mark) (sizes m.goal.answer_terms) r rest) (goal-row S m.goal w) ∙ as_goal-row m.mark m.goal rest)
 
 pub read-goals : (S : List Symbol) (ms : List Marked) (rest : List ℕ) → All (WfMarked S) ms → read_goals S (length ms) (write_goals ms ++ rest) ≡ some ms
 unfolding read_goals write_goals goals_after with_goal
@@ -114,43 +114,43 @@ mark-written (suc (suc (suc (suc (suc k))))) m e = absurd (none-ne-some m e)
 -- The goal that words begin with, and what is after it.
 pub record GoalReads (S : List Symbol) (ws : List ℕ) (m : Marked) (rest : List ℕ) : Type 0 where
   pub written : ws ≡ write_goal m ++ rest
-  pub answers : WfTerms S m.goal.answers
+  pub answer_terms : WfTerms S m.goal.answer_terms
   pub literals : WfLiterals S m.goal.literals
 
 -- The parts that a goal was put together from, and the words that they were read from.
 as_goal-parts :
     (o : Option Mark) (a : ℕ) (r : Option Row) (rest : List ℕ) (m : Marked) (rest' : List ℕ) → as_goal o a r rest ≡ some (goal_read m rest')
-    → (o ≡ some m.mark) × (r ≡ some (row m.goal.answers m.goal.literals)) × (sizes m.goal.answers ≡ a) × (rest ≡ rest')
+    → (o ≡ some m.mark) × (r ≡ some (row m.goal.answer_terms m.goal.literals)) × (sizes m.goal.answer_terms ≡ a) × (rest ≡ rest')
 unfolding as_goal
 as_goal-parts none a r rest m rest' e = absurd (none-ne-some (goal_read m rest') e)
 as_goal-parts (some k) a none rest m rest' e = absurd (none-ne-some (goal_read m rest') e)
 as_goal-parts (some k) a (some (row ts ls)) rest m rest' e = go (eqb (sizes ts) a) refl
   where
     g : Marked
-    g = marked k (record { answers = ts; literals = ls })
+    g = marked k (record { answer_terms = ts; literals = ls })
 
     go :
         (b : Bool) → eqb (sizes ts) a ≡ b
-        → (some k ≡ some m.mark) × (some (row ts ls) ≡ some (row m.goal.answers m.goal.literals)) × (sizes m.goal.answers ≡ a) × (rest ≡ rest')
+        → (some k ≡ some m.mark) × (some (row ts ls) ≡ some (row m.goal.answer_terms m.goal.literals)) × (sizes m.goal.answer_terms ≡ a) × (rest ≡ rest')
     go true q =
         let same : some (goal_read g rest) ≡ some (goal_read m rest') = sym (rw (q, as_goal)) ∙ e in
         let h : g ≡ m = cc in (
           ap (λ (x : Marked). some x.mark) h,
-          ap (λ (x : Marked). some (row x.goal.answers x.goal.literals)) h,
-          ap (λ (x : Marked). sizes x.goal.answers) (sym h) ∙ eqb-true (sizes ts) a q,
+          ap (λ (x : Marked). some (row x.goal.answer_terms x.goal.literals)) h,
+          ap (λ (x : Marked). sizes x.goal.answer_terms) (sym h) ∙ eqb-true (sizes ts) a q,
           cc,
         )
     go false q = absurd (none-ne-some (goal_read m rest') (sym (rw (q, as_goal)) ∙ e))
 
 goal-parts :
     (S : List Symbol) (w a n : ℕ) (ws : List ℕ) (m : Marked) (rest : List ℕ) → w % 4096 ≡ 2 + n → n ≤ length ws → w / 4096 ≡ mark_number m.mark
-    → Reads S (take n ws) m.goal.answers m.goal.literals → sizes m.goal.answers ≡ a → drop n ws ≡ rest → GoalReads S (w ∷ a ∷ ws) m rest
+    → Reads S (take n ws) m.goal.answer_terms m.goal.literals → sizes m.goal.answer_terms ≡ a → drop n ws ≡ rest → GoalReads S (w ∷ a ∷ ws) m rest
 unfolding write_goal goal_words goal_cells
 goal-parts S w a n ws m rest e fits k r s d =
     let l : length (goal_cells m.goal) ≡ n = ap length (sym r.written) ∙ length-take-le n ws fits in
     let first : w ≡ goal_words m.goal + 4096 * mark_number m.mark = omega arith in
     let after : ws ≡ goal_cells m.goal ++ rest = sym (take-append-drop n ws) ∙ ap₂ ◌++◌ r.written d in
-    record { written = ap₂ ◌∷◌ first (ap₂ ◌∷◌ (sym s) after); answers = r.terms; literals = r.literals }
+    record { written = ap₂ ◌∷◌ first (ap₂ ◌∷◌ (sym s) after); answer_terms = r.terms; literals = r.literals }
 
 pub goal-reads : (S : List Symbol) (ws : List ℕ) (m : Marked) (rest : List ℕ) → read_goal S ws ≡ some (goal_read m rest) → GoalReads S ws m rest
 unfolding read_goal
@@ -165,7 +165,7 @@ goal-reads S (w ∷ a ∷ ws) m rest e = go (leb 2 (w % 4096) && leb (w % 4096 -
         let least : 2 ≤ w % 4096 = leb-true 2 (w % 4096) t.0 in
         let fits : n ≤ length ws = leb-true n (length ws) t.1 in
         let p = as_goal-parts (read_mark (w / 4096)) a (read_row S (take n ws)) (drop n ws) m rest (sym (goal-cut S w a n ws (omega arith) fits) ∙ e) in
-        goal-parts S w a n ws m rest (omega arith) fits (mark-written (w / 4096) m.mark p.0) (row_reads S (take n ws) m.goal.answers m.goal.literals p.1) p.2 p.3
+        goal-parts S w a n ws m rest (omega arith) fits (mark-written (w / 4096) m.mark p.0) (row_reads S (take n ws) m.goal.answer_terms m.goal.literals p.1) p.2 p.3
     go false q = absurd (none-ne-some (goal_read m rest) (sym (rw (q, read_goal)) ∙ e))
 
 -- The goals that words begin with.
@@ -173,7 +173,7 @@ pub record GoalsReads (S : List Symbol) (n : ℕ) (ws : List ℕ) (ms : List Mar
   pub rest : List ℕ
   pub many : length ms ≡ n
   pub written : ws ≡ write_goals ms ++ rest
-  pub symbols : All (λ m. WfTerms S m.goal.answers × WfLiterals S m.goal.literals) ms
+  pub symbols : All (λ m. WfTerms S m.goal.answer_terms × WfLiterals S m.goal.literals) ms
 
 goals-one :
     (S : List Symbol) (n : ℕ) (ws rest : List ℕ) (m : Marked) (ms : List Marked) → GoalReads S ws m rest → GoalsReads S n rest ms → GoalsReads S (suc n) ws (m ∷ ms)
@@ -183,7 +183,7 @@ goals-one S n ws rest m ms h r =
       rest = r.rest;
       many = ap suc r.many;
       written = h.written ∙ ap (write_goal m ++◌) r.written ∙ simp append_assoc;
-      symbols = ((h.answers, h.literals), r.symbols);
+      symbols = ((h.answer_terms, h.literals), r.symbols);
     }
 
 pub goals-reads : (S : List Symbol) (n : ℕ) (ws : List ℕ) (ms : List Marked) → read_goals S n ws ≡ some ms → GoalsReads S n ws ms

@@ -18,7 +18,7 @@ use Rattle.rules.proofs.Keeps.{Invariant, atom_goal, with_literals, Kept, Outcom
 -- Of a goal with a negative literal that has no variables: the goal of its atom, and the goal without it.
 module _ (S : List Symbol) (ans : Terms) (before : List Literal) (p : ℕ) (ts : Terms) (after : List Literal) (closed : vars_terms ts [] ≡ []) where
   abbrev whole : Goal
-  whole = record { answers = ans; literals = before ++ (neg p ts ∷ after) }
+  whole = record { answer_terms = ans; literals = before ++ (neg p ts ∷ after) }
 
   module _ (w : WfGoal S whole) where
     parts : WfLiterals S before × WfLiterals S (neg p ts ∷ after)
@@ -27,7 +27,7 @@ module _ (S : List Symbol) (ans : Terms) (before : List Literal) (p : ℕ) (ts :
     atom-kept : WfGoal S (atom_goal p ts)
     unfolding numbered
     atom-kept = record {
-      answers = tt;
+      answer_terms = tt;
       literals = (atom-wf S p ts parts.1.0, tt);
       in_order = rw closed;
       short = omega (arith, w.short, atom-shorter ans before (neg p ts) after p);
@@ -35,7 +35,7 @@ module _ (S : List Symbol) (ans : Terms) (before : List Literal) (p : ℕ) (ts :
 
     without-kept : WfGoal S (with_literals whole (before ++ after))
     without-kept = record {
-      answers = w.answers;
+      answer_terms = w.answer_terms;
       literals = all_append (WfLiteral S) before after parts.0 parts.1.1;
       in_order = rw (vars-without before (neg p ts) after closed) at w.in_order;
       short = omega (arith, w.short, without-shorter ans before (neg p ts) after);
@@ -49,10 +49,10 @@ pub wf-kept : (S : List Symbol) (clauses : List Clause) → All (WfClause S) cla
 wf-kept S clauses wf g w = record {
   answered = λ e. w;
   parks = λ m h s. w;
-  derives = resolvents-wf S clauses wf g (record { answers = w.answers; literals = w.literals });
+  derives = resolvents-wf S clauses wf g (record { answer_terms = w.answer_terms; literals = w.literals });
   asks = λ before p ts after e closed.
       let v : WfGoal S (with_literals g (before ++ (neg p ts ∷ after))) = subst (λ ls. WfGoal S (with_literals g ls)) e w in
-      (atom-kept S g.answers before p ts after closed v, without-kept S g.answers before p ts after closed v);
+      (atom-kept S g.answer_terms before p ts after closed v, without-kept S g.answer_terms before p ts after closed v);
 }
 
 pub evaluate-keeps :

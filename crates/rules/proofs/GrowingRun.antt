@@ -51,7 +51,7 @@ cells-many (suc n) ws = omega (arith, cells-many n ws)
 
 -- The goal P(f(.. f(a) ..)), and the deck's clause.
 abbrev goal_at : ℕ → Goal
-goal_at n = record { answers = nil; literals = pos 2 (cons (term_at n) nil) ∷ [] }
+goal_at n = record { answer_terms = nil; literals = pos 2 (cons (term_at n) nil) ∷ [] }
 
 abbrev clauses : List Clause
 clauses = record { predicate = 2; arguments = cons (var 0) nil; body = pos 2 (cons (app 1 (cons (var 0) nil)) nil) ∷ [] } ∷ []

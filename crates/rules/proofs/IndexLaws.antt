@@ -86,9 +86,9 @@ tried-collect N ans before ts after cs = tried-cases (λ ds. collect (resolvent 
     (λ r e. row-collect r (resolvent N ans before ts after) (λ c n. rw (other-row r ts (fresh N c.arguments) e (rw (row-fresh N c.arguments) n))) cs)
 
 pub tried-resolvents : (clauses : List Clause) (g : Goal) (before : List Literal) (p : ℕ) (ts : Terms) (after : List Literal)
-    → resolvents clauses g before p ts after ≡ collect (resolvent (top_goal g) g.answers before ts after) (tried ts (clauses_about p clauses))
+    → resolvents clauses g before p ts after ≡ collect (resolvent (top_goal g) g.answer_terms before ts after) (tried ts (clauses_about p clauses))
 unfolding resolvents
-tried-resolvents clauses g before p ts after = sym (tried-collect (top_goal g) g.answers before ts after (clauses_about p clauses))
+tried-resolvents clauses g before p ts after = sym (tried-collect (top_goal g) g.answer_terms before ts after (clauses_about p clauses))
 
 -- The cost: each clause that is not tried would have cost 1.
 pub tried-matchings : (N : ℕ) (ts : Terms) (cs : List Clause) → matchings N ts cs + length (tried ts cs) ≡ matchings N ts (tried ts cs) + length cs

@@ -22,10 +22,10 @@ pub record Invariant : Type 1 where
 
 -- The goal of a new level, and a goal that has lost a literal.
 abbrev pub atom_goal : ℕ → Terms → Goal
-atom_goal p ts = record { answers = nil; literals = pos p ts ∷ [] }
+atom_goal p ts = record { answer_terms = nil; literals = pos p ts ∷ [] }
 
 abbrev pub with_literals : Goal → List Literal → Goal
-with_literals g others = record { answers = g.answers; literals = others }
+with_literals g others = record { answer_terms = g.answer_terms; literals = others }
 
 -- The marks of parked goals: all but mark 0.
 abbrev pub Parks : Mark → Type 0

@@ -45,7 +45,7 @@ module _ (X : Existence) (I J : Reading) where
   ActSound g (decide p ts others) =
       ((ν : Filling) → J.inside p (evals ν ts) → Possible I g → X.Absurd)
       × (((ν : Filling) → I.inside p (evals ν ts) → X.Absurd) → (choice : Inds)
-      → (CoversBy I choice g → CoversBy I choice (goal_of g.answers others)) × (CoversBy J choice (goal_of g.answers others) → CoversBy J choice g))
+      → (CoversBy I choice g → CoversBy I choice (goal_of g.answer_terms others)) × (CoversBy J choice (goal_of g.answer_terms others) → CoversBy J choice g))
 
   -- A selected negative literal has no variables, so that its atom is one.
   decide-sound :
@@ -189,7 +189,7 @@ module _ (X : Existence) (I J : Reading) where
 
   -- A goal without literals covers a choice.
   bare-covers : (g : Goal) → g.literals ≡ [] → Possible J g
-  bare-covers g e = let ν : Filling = λ v. node 0 inil in (evals ν g.answers, (ν, refl, rw e tt))
+  bare-covers g e = let ν : Filling = λ v. node 0 inil in (evals ν g.answer_terms, (ν, refl, rw e tt))
 
   module _ (g : Goal) (gs : List Goal) (ms : List Marked) (hs : List Goal) where
     abbrev here : Level
@@ -203,7 +203,7 @@ module _ (X : Existence) (I J : Reading) where
         same-answers at here _ refl,
       );
       on_failure = λ n. (
-        replaced g gs ms hs (goal_of g.answers others ∷ []) (λ choice.
+        replaced g gs ms hs (goal_of g.answer_terms others ∷ []) (λ choice.
             let i = s.1 (λ ν a. n (evals ν nil, (ν, refl, (a, tt)))) choice in
             (λ c. elim c [ inl k ↦ X.unit (inl (i.0 k)) | inr b ↦ absurd b ], λ c. elim c [ inl k ↦ inl (i.1 k) | inr b ↦ absurd b ])),
         same-answers at here _ refl,

@@ -60,14 +60,14 @@ verdicts = refl
 
 -- Each of the six numbers in its place, with inner zeros; brackets, commas, a space between terms.
 abbrev pub bare : Goal
-bare = record { answers = nil; literals = [] }
+bare = record { answer_terms = nil; literals = [] }
 
 pub all-marks :
     listing (accepted (record {
       stop = budget;
       steps = 100305;
       cost = 2000040;
-      answers = record { answers = cons (app 30 (cons (app 0 nil) (cons (var 0) nil))) (cons (var 10) nil); literals = [] } ∷ bare ∷ [];
+      answers = record { answer_terms = cons (app 30 (cons (app 0 nil) (cons (var 0) nil))) (cons (var 10) nil); literals = [] } ∷ bare ∷ [];
       pending = bare ∷ bare ∷ bare ∷ [];
       parked = [];
     }))

@@ -34,10 +34,10 @@ loops = record {
 
 -- The goal "p and q", and the goal derived from it, "q and r(x)".
 abbrev both : Goal
-both = record { answers = nil; literals = pos 0 nil ∷ pos 2 nil ∷ [] }
+both = record { answer_terms = nil; literals = pos 0 nil ∷ pos 2 nil ∷ [] }
 
 abbrev derived : Goal
-derived = record { answers = nil; literals = pos 2 nil ∷ pos 1 (cons (var 0) nil) ∷ [] }
+derived = record { answer_terms = nil; literals = pos 2 nil ∷ pos 1 (cons (var 0) nil) ∷ [] }
 
 one-step : remaining (evaluate loops 0 1024 (both ∷ []) [] 1) ≡ unmarked (derived ∷ [])
 unfolding rules

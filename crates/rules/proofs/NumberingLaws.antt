@@ -345,7 +345,7 @@ top_literals-above [] = refl
 top_literals-above (l ∷ ls) = omega (arith, tops_above (arguments l) (vars_literals ls), top_literals-above ls)
 
 pub top_goal-above : (g : Goal) → above (vars_goal g) ≡ top_goal g
-top_goal-above g = omega (arith, tops_above g.answers (vars_literals g.literals), top_literals-above g.literals)
+top_goal-above g = omega (arith, tops_above g.answer_terms (vars_literals g.literals), top_literals-above g.literals)
 
 -- RENAMING
 module _ (ρ : ℕ → ℕ) where
@@ -364,7 +364,7 @@ module _ (ρ : ℕ → ℕ) where
   vars_literals-renames (neg p ts ∷ ls) = ap (vars_terms (renames ρ ts)) (vars_literals-renames ls) ∙ vars-renames ts (vars_literals ls)
 
   pub vars_goal-renames : (g : Goal) → vars_goal (map_goal (renames ρ) g) ≡ map ρ (vars_goal g)
-  vars_goal-renames g = ap (vars_terms (renames ρ g.answers)) (vars_literals-renames g.literals) ∙ vars-renames g.answers (vars_literals g.literals)
+  vars_goal-renames g = ap (vars_terms (renames ρ g.answer_terms)) (vars_literals-renames g.literals) ∙ vars-renames g.answer_terms (vars_literals g.literals)
 
 -- A renaming that keeps the numbers of the variables changes nothing.
 module _ (ρ : ℕ → ℕ) where
@@ -389,8 +389,8 @@ module _ (ρ : ℕ → ℕ) where
 
   pub goal-same : (g : Goal) → ((x : ℕ) → In x (vars_goal g) → ρ x ≡ x) → map_goal (renames ρ) g ≡ g
   goal-same g h = λ i. record {
-    answers = renames-same g.answers (λ x k. h x (occs-in x g.answers (vars_literals g.literals) k)) i;
-    literals = literals-same g.literals (λ x k. h x ((in-vars x g.answers (vars_literals g.literals)).1 (inr k))) i;
+    answer_terms = renames-same g.answer_terms (λ x k. h x (occs-in x g.answer_terms (vars_literals g.literals) k)) i;
+    literals = literals-same g.literals (λ x k. h x ((in-vars x g.answer_terms (vars_literals g.literals)).1 (inr k))) i;
   }
 
 -- RENUMBERING

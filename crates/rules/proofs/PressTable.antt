@@ -80,7 +80,7 @@ abbrev room_for : ℕ → Lent
 room_for n = record { budget = 9; answer_room = n; store_size = 1024 }
 
 abbrev answer_b : Level
-answer_b = level (record { answers = cons (app 1 nil) nil; literals = [] } ∷ []) [] []
+answer_b = level (record { answer_terms = cons (app 1 nil) nil; literals = [] } ∷ []) [] []
 
 pub press-answers :
     (returns (deck_of (open_deck deck_l)) (room_for 2 ∷ room_for 3 ∷ []) answer_b ≡ prevented answers ∷ stepped ∷ [])

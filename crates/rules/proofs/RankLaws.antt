@@ -134,7 +134,7 @@ module _ (clauses : List Clause) (rank : ℕ → ℕ) (ranked : Ranked clauses r
       answered = λ e. tt;
       parks = λ m p s. tt;
       derives = λ before p ts after e o.
-          collect-all Under (λ c. highest rank c.body ≤ rank p) (resolvent (top_goal g) g.answers before ts after)
+          collect-all Under (λ c. highest rank c.body ≤ rank p) (resolvent (top_goal g) g.answer_terms before ts after)
           (λ c w. resolved-under _ (unify ts (fresh (top_goal g) c.arguments)) (omega (
             arith,
             w,

@@ -10,7 +10,7 @@ use borrow.Author.Tests.{leb-true}
 use Rattle.rules.specs.Terms.{nil}
 use Rattle.rules.specs.Syntax.{Literal, Clause, pos, neg, predicate_of}
 use Rattle.rules.specs.WellFormed.{All}
-use Rattle.rules.specs.Ranks.{nots, greatest, rests_on, Ranked, Chain, stays, goes, Circular, ranks, circular, Tells, numbers}
+use Rattle.rules.specs.Ranks.{nots, greatest, rests_on, Ranked, Chain, stays, goes, Circular, ranks, circular, TellsLevels, numbers}
 use Rattle.rules.specs.All.{rules}
 use Rattle.rules.proofs.Table.{deck_l}
 use Rattle.rules.proofs.MoreRuns.{deck_p, deck_n}
@@ -36,7 +36,7 @@ found ws = rounds (clauses_of ws) (heads (clauses_of ws))
 abbrev ranked : (ℕ → ℕ) → Literal → ℕ
 ranked rank l = nots l + rank (predicate_of l)
 
-stable-tells : (ws : List ℕ) → holds (ranked (found ws)) (found ws) (clauses_of ws) ≡ true → Tells (clauses_of ws) (ranks (found ws))
+stable-tells : (ws : List ℕ) → holds (ranked (found ws)) (found ws) (clauses_of ws) ≡ true → TellsLevels (clauses_of ws) (ranks (found ws))
 stable-tells ws e =
     let r : Ranked (clauses_of ws) (found ws) = by-clauses (ranked (found ws)) (found ws) (clauses_of ws) (holds-all (ranked (found ws)) (found ws) (clauses_of ws) e) in
     elim (ranks-or-circle (clauses_of ws)) [ inl h ↦ h | inr w ↦ absurd (ranked-not-circular (clauses_of ws) (found ws) r w.0 w.1) ]
@@ -67,15 +67,15 @@ abbrev pub deck_v : List ℕ
 deck_v = 1 ∷ 3 ∷ 8 ∷ 3 ∷ 11 ∷ 6 ∷ 14 ∷ 20 ∷ 256 ∷ 256 ∷ 256 ∷ 0 ∷ 2 ∷ 4 ∷ 0 ∷ 1 ∷ 1 ∷ 2 ∷ 2 ∷ 16385 ∷ []
 
 -- Deck L: x is a lead if x is an end and not drawn. a if not b, b if not c. A chain without a "not" back to itself: its predicates have a level.
-pub told-L : Tells (clauses_of deck_l) (ranks (found deck_l))
+pub told-L : TellsLevels (clauses_of deck_l) (ranks (found deck_l))
 unfolding rules rounds rests_on
 told-L = stable-tells deck_l refl
 
-pub told-N : Tells (clauses_of deck_n) (ranks (found deck_n))
+pub told-N : TellsLevels (clauses_of deck_n) (ranks (found deck_n))
 unfolding rules rounds rests_on
 told-N = stable-tells deck_n refl
 
-pub told-Z : Tells (clauses_of deck_z) (ranks (found deck_z))
+pub told-Z : TellsLevels (clauses_of deck_z) (ranks (found deck_z))
 unfolding rules rounds rests_on
 told-Z = stable-tells deck_z refl
 
@@ -91,11 +91,11 @@ unfolding numbers
 told-zeros = refl
 
 -- p if not p. And a, which is on a chain that passes b twice: a, b, not b, a.
-pub told-P : Tells (clauses_of deck_p) (circular 0)
+pub told-P : TellsLevels (clauses_of deck_p) (circular 0)
 unfolding rules rests_on
 told-P = ((0, goes (neg 0 nil) (Memᴰ.head refl) stays), λ q l c. omega arith)
 
-pub told-W : Tells (clauses_of deck_w) (circular 0)
+pub told-W : TellsLevels (clauses_of deck_w) (circular 0)
 unfolding rules rests_on
 told-W = (
   (0, goes (pos 1 nil) (Memᴰ.head refl) (goes (neg 1 nil) (Memᴰ.tail (Memᴰ.head refl)) (goes (pos 0 nil) (Memᴰ.head refl) stays))),
@@ -103,7 +103,7 @@ told-W = (
 )
 
 -- a leads to a chain from b back to b, through c and a "not"; but none leads back to a. So b is named, and c is behind it.
-pub told-V : Tells (clauses_of deck_v) (circular 1)
+pub told-V : TellsLevels (clauses_of deck_v) (circular 1)
 unfolding rules rests_on only
 told-V = (
   (0, goes (pos 2 nil) (Memᴰ.head refl) (goes (neg 1 nil) (Memᴰ.head refl) stays)),

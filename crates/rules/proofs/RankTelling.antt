@@ -13,7 +13,7 @@ use Rattle.rules.specs.Terms.{count}
 use Rattle.rules.specs.Refusals.{Checked, refused, accepted}
 use Rattle.rules.specs.Decks.{open_deck}
 use Rattle.rules.specs.WellFormed.{All, WfClause, WfDeck}
-use Rattle.rules.specs.Ranks.{nots, greatest, highest, rests_on, Least, Chain, stays, goes, Circular, Telling, ranks, circular, Tells, rank_of, numbers, Levels, given, chained, levels_number, levels_of, Levelled, turned_down, told}
+use Rattle.rules.specs.Ranks.{nots, greatest, highest, rests_on, Least, Chain, stays, goes, Circular, Telling, ranks, circular, TellsLevels, rank_of, numbers, Levels, given, chained, levels_number, levels_of, Levelled, turned_down, told}
 use Rattle.rules.proofs.CellLaws.{positive-below}
 use Rattle.rules.proofs.RankLaws.{greatest-in, greatest-all, ranked-not-circular}
 use Rattle.rules.proofs.RankSearch.{First, below_all, sum, only, only_at, only-off, greatest-from, heads, rests-none, rounds, rounds-bound, ranks-or-circle}
@@ -204,10 +204,10 @@ module _ (clauses : List Clause) (p : ℕ) where
   ]
 
 -- EVERY DECK'S CLAUSES HAVE ONE OF THE TWO TELLINGS,
-pub tells-some : (clauses : List Clause) → (t : Telling) × Tells clauses t
+pub tells-some : (clauses : List Clause) → (t : Telling) × TellsLevels clauses t
 tells-some clauses = go (ranks-or-circle clauses)
   where
-    go : Least clauses (rounds clauses (heads clauses)) ⊎ ((s : ℕ) × Circular clauses s) → (t : Telling) × Tells clauses t
+    go : Least clauses (rounds clauses (heads clauses)) ⊎ ((s : ℕ) × Circular clauses s) → (t : Telling) × TellsLevels clauses t
     go (inl h) = (ranks (rounds clauses (heads clauses)), h)
     go (inr w) =
         elim (below_all (λ q. Circular clauses q → ⊥) (Circular clauses) (λ q. elim (circular? clauses q) [ yes c ↦ inr c | no n ↦ inl n ]) (suc w.0)) [
@@ -222,7 +222,7 @@ Same (ranks r) (circular q) = ⊥
 Same (circular p) (ranks s) = ⊥
 Same (circular p) (circular q) = p ≡ q
 
-pub tells-same : (clauses : List Clause) (t u : Telling) → Tells clauses t → Tells clauses u → Same t u
+pub tells-same : (clauses : List Clause) (t u : Telling) → TellsLevels clauses t → TellsLevels clauses u → Same t u
 tells-same clauses (ranks r) (ranks s) h k = λ p. omega (arith, h.least s k.ranked p, k.least r h.ranked p)
 tells-same clauses (ranks r) (circular q) h k = ranked-not-circular clauses r h.ranked q k.0
 tells-same clauses (circular p) (ranks s) h k = ranked-not-circular clauses s k.ranked p h.0
@@ -245,7 +245,7 @@ abbrev pub Given : Telling → Type 0
 Given (ranks r) = Unit {0}
 Given (circular p) = ⊥
 
-pub given-exactly : (clauses : List Clause) (t : Telling) → Tells clauses t → Given t ↔ ((p : ℕ) → Circular clauses p → ⊥)
+pub given-exactly : (clauses : List Clause) (t : Telling) → TellsLevels clauses t → Given t ↔ ((p : ℕ) → Circular clauses p → ⊥)
 given-exactly clauses (ranks r) h = (λ g p c. ranked-not-circular clauses r h.ranked p c, λ n. tt)
 given-exactly clauses (circular p) h = (λ g. absurd g, λ n. n p h.0)
 
@@ -303,7 +303,7 @@ levels-same (turned_down e) (told u f k) = absurd (let z : ◌≡◌ {A = ℕ} 0
 levels-same (told t e h) (turned_down f) = absurd (let z : ◌≡◌ {A = ℕ} 0 1 = cc in omega arith)
 levels-same (told {deck} t e h) (told {deck = deck'} u f k) =
     let same : deck' ≡ deck = cc in
-    let one = tells-same deck.clauses t u h (subst (λ (d : Deck). Tells d.clauses u) same k) in
+    let one = tells-same deck.clauses t u h (subst (λ (d : Deck). TellsLevels d.clauses u) same k) in
     (ap accepted (levels-of t u one), numbers-same t u one 4096)
 
 -- The list keeps its length.

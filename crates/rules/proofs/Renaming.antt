@@ -16,21 +16,21 @@ use Rattle.rules.proofs.Values.{AgreeOn, evals-on, evals-below, renames-eval, ho
 
 -- The goal covers the choice under ν.
 abbrev pub CoversAt : Reading → Inds → Goal → Filling → Type 0
-CoversAt I choice g ν = (evals ν g.answers ≡ choice) × Holds I ν g.literals
+CoversAt I choice g ν = (evals ν g.answer_terms ≡ choice) × Holds I ν g.literals
 
 module _ (I : Reading) (choice : Inds) (g : Goal) (ν μ : Filling) where
   -- After a change of the terms that is a change of the filling; under fillings that agree on the goal's variables, or below a number.
   pub covers-map : (F : Terms → Terms) → ((ts : Terms) → evals ν (F ts) ≡ evals μ ts) → CoversAt I choice (map_goal F g) ν ≡ CoversAt I choice g μ
-  covers-map F h = ap₂ (λ (A B : Type 0). A × B) (ap (λ (us : Inds). us ≡ choice) (h g.answers)) (holds-map I ν μ F h g.literals)
+  covers-map F h = ap₂ (λ (A B : Type 0). A × B) (ap (λ (us : Inds). us ≡ choice) (h g.answer_terms)) (holds-map I ν μ F h g.literals)
 
   pub covers-on : AgreeOn ν μ (vars_goal g) → CoversAt I choice g ν ≡ CoversAt I choice g μ
   covers-on h =
-      let r = evals-on ν μ g.answers (vars_literals g.literals) h in
+      let r = evals-on ν μ g.answer_terms (vars_literals g.literals) h in
       ap₂ (λ (A B : Type 0). A × B) (ap (λ (us : Inds). us ≡ choice) r.0) (holds_on I ν μ g.literals r.1)
 
   pub covers_below : (N : ℕ) → ((v : ℕ) → v < N → ν v ≡ μ v) → top_goal g ≤ N → CoversAt I choice g ν ≡ CoversAt I choice g μ
   covers_below N same h =
-      ap₂ (λ (A B : Type 0). A × B) (ap (λ (us : Inds). us ≡ choice) (evals-below ν μ N same g.answers (omega arith)))
+      ap₂ (λ (A B : Type 0). A × B) (ap (λ (us : Inds). us ≡ choice) (evals-below ν μ N same g.answer_terms (omega arith)))
       (holds-below I ν μ N same g.literals (omega arith))
 
 -- Fresh variables: ν for the goal's, which are below N, and μ for the clause's, from N on.

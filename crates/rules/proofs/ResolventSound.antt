@@ -20,7 +20,7 @@ use Rattle.rules.proofs.UnifySound.{Solves, extend, extend_same, applys-eval, un
 use Rattle.rules.proofs.Renaming.{CoversAt, covers-map, covers_below, merge, merge-below, fresh-merge, fresh-own, renumber-covers}
 
 abbrev pub goal_of : Terms → List Literal → Goal
-goal_of ts ls = record { answers = ts; literals = ls }
+goal_of ts ls = record { answer_terms = ts; literals = ls }
 
 -- The literals of a resolvent hold exactly if those of the goal around the selected one and the clause's body do.
 pub place-holds :
@@ -152,13 +152,13 @@ module _ (I : Reading) (choice : Inds) (clauses : List Clause) (g : Goal) (befor
   resolvents-cover ν k gives =
       let l : List Literal = before ++ (pos p ts ∷ after) in
       let t : top_literals g.literals ≡ top_literals l = ap top_literals e in
-      all-cover I choice _ g.answers before p ts after clauses ν (omega (arith, top-selected before p ts after)) (omega arith) (k.0, subst (Holds I ν) e k.1) gives
+      all-cover I choice _ g.answer_terms before p ts after clauses ν (omega (arith, top-selected before p ts after)) (omega arith) (k.0, subst (Holds I ν) e k.1) gives
 
   -- What a resolvent covers, the goal covers, if the atoms that the clauses give are true.
   pub resolvents-give : ((us : Inds) → Some (Gives I p us) clauses → I.inside p us) → Some (CoversBy I choice) (resolvents clauses g before p ts after) → CoversBy I choice g
   unfolding resolvents
   resolvents-give true-atoms k =
-      let r = all_give I choice _ g.answers before p ts after clauses k in
+      let r = all_give I choice _ g.answer_terms before p ts after clauses k in
       let ν : Filling = r.0 in
       (ν, r.1.0, subst (Holds I ν) (sym e) ((holds-append I ν before (pos p ts ∷ after)).1 (r.1.1, (true-atoms (evals ν ts) r.2, r.1.2))))
 

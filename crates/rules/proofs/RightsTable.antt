@@ -87,7 +87,7 @@ carried-rights = refl
 
 -- A parked goal's literals are starting points too, also where no clause is.
 pub parked-start :
-    run_from (record { format = format1; symbols = predicate 0 ∷ []; clauses = [] }) (1 ∷ []) [] (marked undecided (record { answers = nil; literals = neg 0 nil ∷ [] }) ∷ []) 9 9 1024
+    run_from (record { format = format1; symbols = predicate 0 ∷ []; clauses = [] }) (1 ∷ []) [] (marked undecided (record { answer_terms = nil; literals = neg 0 nil ∷ [] }) ∷ []) 9 9 1024
     ≡ refused barred_reached
 unfolding rules
 parked-start = refl

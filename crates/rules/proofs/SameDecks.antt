@@ -84,7 +84,7 @@ module _ (P : ℕ → Type 0) where
         → All (λ d. NamesOnly d.literals) (resolvents clauses g before p ts after)
     unfolding resolvents resolvent
     resolvents-name g before p ts after h =
-        collect-all (λ d. NamesOnly d.literals) (λ c. NamesOnly c.body) (resolvent (top_goal g) g.answers before ts after)
+        collect-all (λ d. NamesOnly d.literals) (λ c. NamesOnly c.body) (resolvent (top_goal g) g.answer_terms before ts after)
         (λ c b. resolved-names _
         (all_append Named before _ parts.0 (all_append Named after (map_literals (fresh (top_goal g)) c.body) parts.1.1 (mapped (fresh (top_goal g)) c.body b))) _)
         (clauses_about p clauses) (all_in (λ c. NamesOnly c.body) (clauses_about p clauses) (λ c i.
@@ -115,7 +115,7 @@ module _ (P : ℕ → Type 0) (cs ds : List Clause) (agree : (p : ℕ) → P p �
   selected-same below g ls h nothing e = refl
   selected-same below g ls h (positive before p ts after) e =
       let parts = all_split (λ l. P (predicate_of l)) before (pos p ts ∷ after) (subst (NamesOnly P) e h) in
-      ap (λ ks. derive_act (collect (resolvent (top_goal g) g.answers before ts after) ks)) (agree p parts.1.0)
+      ap (λ ks. derive_act (collect (resolvent (top_goal g) g.answer_terms before ts after) ks)) (agree p parts.1.0)
   selected-same below g ls h (negative before p ts after) e = refl
 
   act-same : (below : ℕ) (g : Goal) (ls : List Literal) → NamesOnly P ls → literals_act cs below g ls ≡ literals_act ds below g ls

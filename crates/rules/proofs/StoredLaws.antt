@@ -43,23 +43,23 @@ module _ {ℓ} {A : Type ℓ} (test : A → Bool) where
 -- A well-formed goal of so many answer terms.
 pub record Fits (S : List Symbol) (terms : ℕ) (g : Goal) : Type 0 where
   pub wf : WfGoal S g
-  pub many : count g.answers ≡ terms
+  pub many : count g.answer_terms ≡ terms
 
 abbrev pub ParkedFits : List Symbol → ℕ → Marked → Type 0
 ParkedFits S terms m = Parks m.mark × Fits S terms m.goal
 
 fits-test : (S : List Symbol) (terms : ℕ) (g : Goal) → Fits S terms g → goal_fits terms g ≡ true
 unfolding goal_fits
-fits-test S terms g h = rw (eq-eqb (count g.answers) terms h.many, le-leb (goal_words g) 1024 h.wf.short) h.wf.in_order
+fits-test S terms g h = rw (eq-eqb (count g.answer_terms) terms h.many, le-leb (goal_words g) 1024 h.wf.short) h.wf.in_order
 
-test_fits : (S : List Symbol) (terms : ℕ) (g : Goal) → WfTerms S g.answers → WfLiterals S g.literals → goal_fits terms g ≡ true → Fits S terms g
+test_fits : (S : List Symbol) (terms : ℕ) (g : Goal) → WfTerms S g.answer_terms → WfLiterals S g.literals → goal_fits terms g ≡ true → Fits S terms g
 unfolding goal_fits
 test_fits S terms g a l e =
-    let r = (and-eq-true_iff (eqb (count g.answers) terms) _).0 e in
+    let r = (and-eq-true_iff (eqb (count g.answer_terms) terms) _).0 e in
     let s = (and-eq-true_iff (leb (goal_words g) 1024) _).0 r.1 in
     record {
-      wf = record { answers = a; literals = l; in_order = s.1; short = leb-true (goal_words g) 1024 s.0 };
-      many = eqb-true (count g.answers) terms r.0;
+      wf = record { answer_terms = a; literals = l; in_order = s.1; short = leb-true (goal_words g) 1024 s.0 };
+      many = eqb-true (count g.answer_terms) terms r.0;
     }
 
 mark-0 : (m : Mark) → mark_number m ≡ 0 → m ≡ pending
@@ -88,7 +88,7 @@ parks-mark deep h = omega arith
 
 -- WHAT IS READ
 abbrev Symbols : List Symbol → Marked → Type 0
-Symbols S m = WfTerms S m.goal.answers × WfLiterals S m.goal.literals
+Symbols S m = WfTerms S m.goal.answer_terms × WfLiterals S m.goal.literals
 
 pendings-unmarked : (terms : ℕ) (ms : List Marked) → All (λ m. pending_fits terms m ≡ true) ms → unmarked (map (λ m. m.goal) ms) ≡ ms
 unfolding pending_fits
@@ -200,22 +200,22 @@ read-open S terms gs ms rest p q =
         ∙ (λ i. some (record { pending = (ap (map (λ m. m.goal)) first ∙ unmarked-goals gs) i; parked = last i }))
 
 -- WHAT A RUN LEAVES. The number of a goal's answer terms stays, at level 0.
-resolved-many : (g : Goal) (u : Unification) → Perhaps (λ d. count d.answers ≡ count g.answers) (resolved g u)
+resolved-many : (g : Goal) (u : Unification) → Perhaps (λ d. count d.answer_terms ≡ count g.answer_terms) (resolved g u)
 unfolding resolved renumber
 resolved-many g (fails k) = tt
 resolved-many g spent = tt
-resolved-many g (solved k es) = renames-count _ (applys es g.answers) ∙ applys-count es g.answers
+resolved-many g (solved k es) = renames-count _ (applys es g.answer_terms) ∙ applys-count es g.answer_terms
 
 resolvents-many : (clauses : List Clause) (g : Goal) (before : List Literal) (p : ℕ) (ts : Terms) (after : List Literal)
-    → All (λ d. count d.answers ≡ count g.answers) (resolvents clauses g before p ts after)
+    → All (λ d. count d.answer_terms ≡ count g.answer_terms) (resolvents clauses g before p ts after)
 unfolding resolvents resolvent
 resolvents-many clauses g before p ts after =
-    collect-all (λ d. count d.answers ≡ count g.answers) (λ c. Unit {0}) (resolvent (top_goal g) g.answers before ts after)
+    collect-all (λ d. count d.answer_terms ≡ count g.answer_terms) (λ c. Unit {0}) (resolvent (top_goal g) g.answer_terms before ts after)
     (λ c h. resolved-many _ _) (clauses_about p clauses) (all_of (λ c. Unit {0}) (λ c. tt) (clauses_about p clauses))
 
 module _ (terms : ℕ) where
   abbrev Of : Goal → Type 0
-  Of g = count g.answers ≡ terms
+  Of g = count g.answer_terms ≡ terms
 
   pub record LevelOf (l : Level) : Type 0 where
     pub pending : All Of l.pending
@@ -224,7 +224,7 @@ module _ (terms : ℕ) where
 
   derived-of : {clauses : List Clause} {below : ℕ} {g : Goal} {ds : List Goal} → Acts clauses below g (derive ds) → Of g → All Of ds
   derived-of {clauses} {g = g} (resolves {before} {after} {p} {ts} q o) k =
-      all-weaken (λ d. count d.answers ≡ count g.answers) Of (λ d x. x ∙ k) (resolvents clauses g before p ts after) (resolvents-many clauses g before p ts after)
+      all-weaken (λ d. count d.answer_terms ≡ count g.answer_terms) Of (λ d x. x ∙ k) (resolvents clauses g before p ts after) (resolvents-many clauses g before p ts after)
 
   step_of : {clauses : List Clause} {room store_size below left : ℕ} {at : Place} {l l' : Level} → Ahead clauses room store_size below at l left (step l') → LevelOf l → LevelOf l'
   unfolding with_answer with_parked with_pending

@@ -58,7 +58,7 @@ module _ (I : Interpretation3) where
     )
       where
         TrueAt : Marked → Type 0
-        TrueAt m = (ν : Filling) × (evals ν m.goal.answers ≡ choice) × (literals_value I ν m.goal.literals).is_true
+        TrueAt m = (ν : Filling) × (evals ν m.goal.answer_terms ≡ choice) × (literals_value I ν m.goal.literals).is_true
 
         CoversAt : Marked → Type 0
         CoversAt m = CoversBy Surely choice m.goal

@@ -79,7 +79,7 @@ clauses-say (c ∷ cs) = (
 
 -- A CHANGE OF ALL TERMS of a goal.
 abbrev pub TightGoal : Goal → Type 0
-TightGoal g = Tight g.answers g.literals
+TightGoal g = Tight g.answer_terms g.literals
 
 change-tight : (f : Term → Term) (F : Terms → Terms) → Change f F → (ts : Terms) (ls : List Literal)
     → Within (F (ts +++ terms ls)) (F (terms (positives ls))) → Tight (F ts) (map_literals F ls)
@@ -92,7 +92,7 @@ rename-tight ρ ts ls h =
 
 renumber-tight : (g : Goal) → TightGoal g → TightGoal (renumber g)
 unfolding renumber
-renumber-tight g h = rename-tight (position (appearing [] (vars_goal g))) g.answers g.literals h
+renumber-tight g h = rename-tight (position (appearing [] (vars_goal g))) g.answer_terms g.literals h
 
 -- RESOLUTION. A variable of the selected literal is unified with terms of the head, whose variables all occur in positive literals of the body.
 module _ (ans : Terms) (before : List Literal) (p : ℕ) (ts : Terms) (after : List Literal) (goal : Tight ans (before ++ (pos p ts ∷ after)))
@@ -140,12 +140,12 @@ module _ (ans : Terms) (before : List Literal) (p : ℕ) (ts : Terms) (after : L
               image v u.0 u.2 (terms (positives lits)) (head-places u.0 u.1))
         ]
 
-  resolved-tight : (u : Unification) → unify ts args ≡ u → Perhaps TightGoal (resolved (record { answers = ans; literals = lits }) u)
+  resolved-tight : (u : Unification) → unify ts args ≡ u → Perhaps TightGoal (resolved (record { answer_terms = ans; literals = lits }) u)
   unfolding resolved
   resolved-tight (fails k) e = tt
   resolved-tight spent e = tt
   resolved-tight (solved k es) e =
-      renumber-tight (map_goal (applys es) (record { answers = ans; literals = lits }))
+      renumber-tight (map_goal (applys es) (record { answer_terms = ans; literals = lits }))
       (change-tight (apply es) (applys es) (applied es) ans lits (substituted k es e))
 
 resolvents-tight : (clauses : List Clause) → All TightClause clauses → (g : Goal) → TightGoal g
@@ -153,8 +153,8 @@ resolvents-tight : (clauses : List Clause) → All TightClause clauses → (g : 
     → All TightGoal (resolvents clauses g before p ts after)
 unfolding resolvents resolvent
 resolvents-tight clauses tightened g h before p ts after e =
-    collect-all TightGoal TightClause (resolvent (top_goal g) g.answers before ts after)
-    (λ c w. resolved-tight g.answers before p ts after (rw e at h) (fresh (top_goal g) c.arguments) (map_literals (fresh (top_goal g)) c.body)
+    collect-all TightGoal TightClause (resolvent (top_goal g) g.answer_terms before ts after)
+    (λ c w. resolved-tight g.answer_terms before p ts after (rw e at h) (fresh (top_goal g) c.arguments) (map_literals (fresh (top_goal g)) c.body)
     (rename-tight (λ v. top_goal g + v) c.arguments c.body w) (unify ts (fresh (top_goal g) c.arguments)) refl)
     (clauses_about p clauses) (about-all TightClause p clauses tightened)
 
@@ -195,7 +195,7 @@ selects (neg p ts ∷ ls) n h e =
 tight-selects : (g : Goal) → TightGoal g → Stuck g floundered → ⊥
 tight-selects g h s =
     selects g.literals s.0
-    (λ x k. let z : 0 < occs x (terms (positives g.literals)) = h x (omega (arith, occs-join x g.answers (terms g.literals))) in
+    (λ x k. let z : 0 < occs x (terms (positives g.literals)) = h x (omega (arith, occs-join x g.answer_terms (terms g.literals))) in
     omega (arith, ap (λ ls. occs x (terms ls)) (nothing-positive g.literals s.1))) s.1
 
 -- WHAT A FRESH RUN KEEPS
@@ -239,10 +239,10 @@ without-tight ans before p ts after h x k =
 
 kempt-kept : (clauses : List Clause) → All TightClause clauses → (g : Goal) → TightGoal g → Kept Kempt clauses g
 kempt-kept clauses tightened g h = record {
-  answered = bare-closed g.answers g.literals h;
+  answered = bare-closed g.answer_terms g.literals h;
   parks = other-marks g h;
   derives = λ before p ts after e o. resolvents-tight clauses tightened g h before p ts after e;
-  asks = λ before p ts after e closed. (λ x k. k, without-tight g.answers before p ts after (rw e at h));
+  asks = λ before p ts after e closed. (λ x k. k, without-tight g.answer_terms before p ts after (rw e at h));
 }
 
 -- The first goal.

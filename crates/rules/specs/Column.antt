@@ -40,7 +40,7 @@ entry_word F zero (cons t ts) = term_word F t
 entry_word F (suc place) (cons t ts) = entry_word F place ts
 
 unfoldable pub column_words : Format → ℕ → List Goal → Option (List ℕ)
-column_words F place answers = read_all (λ g. entry_word F place g.answers) answers
+column_words F place answers = read_all (λ g. entry_word F place g.answer_terms) answers
 
 -- A value's word is in two's complement; one column is summed.
 unfoldable pub value_of : ℕ → ℤ

@@ -87,10 +87,10 @@ pub record Question : Type 0 where
 
 unfoldable pub question : Place → Level → Goal → List Goal → ℕ → Terms → List Literal → Question
 question at l g gs p ts others = record {
-  goal = record { answers = nil; literals = pos p ts ∷ [] };
+  goal = record { answer_terms = nil; literals = pos p ts ∷ [] };
   held_outside = held at l;
   on_success = with_pending gs l;
-  on_failure = with_pending (record { answers = g.answers; literals = others } ∷ gs) l;
+  on_failure = with_pending (record { answer_terms = g.answer_terms; literals = others } ∷ gs) l;
   on_unsettled = with_parked undecided g gs l;
 }
 

@@ -31,14 +31,14 @@ unmarked (g ∷ gs) = marked pending g ∷ unmarked gs
 
 -- A goal takes 2 words and its cells.
 unfoldable pub goal_cells : Goal → List ℕ
-goal_cells g = write_terms g.answers (write_literals g.literals)
+goal_cells g = write_terms g.answer_terms (write_literals g.literals)
 
 unfoldable pub goal_words : Goal → ℕ
 goal_words g = 2 + length (goal_cells g)
 
 -- Word 0 is its whole length plus 4,096 × its mark, word 1 is the number of answer-term cells.
 unfoldable pub write_goal : Marked → List ℕ
-write_goal m = (goal_words m.goal + 4096 * mark_number m.mark) ∷ sizes m.goal.answers ∷ goal_cells m.goal
+write_goal m = (goal_words m.goal + 4096 * mark_number m.mark) ∷ sizes m.goal.answer_terms ∷ goal_cells m.goal
 
 unfoldable pub write_goals : List Marked → List ℕ
 write_goals [] = []
@@ -79,7 +79,7 @@ unfoldable pub query_variables : List Literal → List ℕ
 query_variables query = appearing [] (vars_literals query)
 
 unfoldable pub first_goal : List Literal → Goal
-first_goal query = record { answers = variables (query_variables query); literals = query }
+first_goal query = record { answer_terms = variables (query_variables query); literals = query }
 
 -- Reading goals is the inverse of writing them. It asks neither for the numbering nor for at most 1,024 words.
 unfoldable pub read_mark : ℕ → Option Mark
@@ -99,7 +99,7 @@ unfoldable pub as_goal : Option Mark → ℕ → Option Row → List ℕ → Opt
 as_goal none a r rest = none
 as_goal (some m) a none rest = none
 as_goal (some m) a (some (row ts ls)) rest =
-    elim (eqb (sizes ts) a) [ true ↦ some (goal_read (marked m (record { answers = ts; literals = ls })) rest) | false ↦ none ]
+    elim (eqb (sizes ts) a) [ true ↦ some (goal_read (marked m (record { answer_terms = ts; literals = ls })) rest) | false ↦ none ]
 
 unfoldable pub read_goal : List Symbol → List ℕ → Option GoalRead
 read_goal symbols [] = none

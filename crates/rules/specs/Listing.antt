@@ -63,7 +63,7 @@ print_answer (cons t ts) rest = print_term t (print_spaced ts rest)
 
 unfoldable pub print_answers : List Goal → List ℕ
 print_answers [] = []
-print_answers (g ∷ gs) = print_answer g.answers (10 ∷ print_answers gs)
+print_answers (g ∷ gs) = print_answer g.answer_terms (10 ∷ print_answers gs)
 
 -- The first line is a word: `all` (finished, nothing parked, an answer), `no` (finished, nothing parked, no answer) or `open`.
 unfoldable pub verdict_text : Stop → List Marked → List Goal → List ℕ

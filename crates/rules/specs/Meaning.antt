@@ -86,7 +86,7 @@ QueryHolds I query choice = Holds (two_valued I.atoms) (individual choice) query
 
 -- Under some filling of its own variables, the goal's answer terms are in order equal to the choice's individuals and its literals hold.
 abbrev pub CoversBy : Reading → Inds → Goal → Type 0
-CoversBy I choice g = (ν : Filling) × (evals ν g.answers ≡ choice) × Holds I ν g.literals
+CoversBy I choice g = (ν : Filling) × (evals ν g.answer_terms ≡ choice) × Holds I ν g.literals
 
 -- A goal covers a choice.
 unfoldable pub Covers : Interpretation → Inds → Goal → Type 0

@@ -51,9 +51,9 @@ pub data Telling : Type 0 where
   ranks : (ℕ → ℕ) → Telling
   circular : ℕ → Telling
 
-abbrev pub Tells : List Clause → Telling → Type 0
-Tells clauses (ranks rank) = Least clauses rank
-Tells clauses (circular p) = Circular clauses p × ((q : ℕ) → q < p → Circular clauses q → ⊥)
+abbrev pub TellsLevels : List Clause → Telling → Type 0
+TellsLevels clauses (ranks rank) = Least clauses rank
+TellsLevels clauses (circular p) = Circular clauses p × ((q : ℕ) → q < p → Circular clauses q → ⊥)
 
 -- The numbers by symbol, here of the first n: all 0 where there are no ranks.
 abbrev pub rank_of : Telling → ℕ → ℕ
@@ -81,4 +81,4 @@ levels_of (circular p) = chained p
 -- There is always just one such answer (`levels-some`, `levels-same`).
 pub data Levelled (deck_words entry : List ℕ) : Checked Levels → List ℕ → Type 0 where
   turned_down : {n : Refusal} → open_deck deck_words ≡ refused n → Levelled deck_words entry (refused n) entry
-  told : {deck : Deck} (t : Telling) → open_deck deck_words ≡ accepted deck → Tells deck.clauses t → Levelled deck_words entry (accepted (levels_of t)) (numbers t 4096)
+  told : {deck : Deck} (t : Telling) → open_deck deck_words ≡ accepted deck → TellsLevels deck.clauses t → Levelled deck_words entry (accepted (levels_of t)) (numbers t 4096)

@@ -47,7 +47,7 @@ resolved g (solved k es) = some (renumber (map_goal (applys es) g))
 -- The derived goal for the answer terms `ans` and the literals `before`, p(ts), `after`, by a clause about p.
 unfoldable pub resolvent : ℕ → Terms → List Literal → Terms → List Literal → Clause → Option Goal
 resolvent N ans before ts after c =
-    resolved (record { answers = ans; literals = place before (map_literals (fresh N) c.body) after }) (unify ts (fresh N c.arguments))
+    resolved (record { answer_terms = ans; literals = place before (map_literals (fresh N) c.body) after }) (unify ts (fresh N c.arguments))
 
 unfoldable pub keep_some : Option Goal → List Goal → List Goal
 keep_some none gs = gs
@@ -59,7 +59,7 @@ collect by (c ∷ cs) = keep_some (by c) (collect by cs)
 
 -- For each clause about that predicate, in deck order, whose head matches.
 unfoldable pub resolvents : List Clause → Goal → List Literal → ℕ → Terms → List Literal → List Goal
-resolvents clauses g before p ts after = collect (resolvent (top_goal g) g.answers before ts after) (clauses_about p clauses)
+resolvents clauses g before p ts after = collect (resolvent (top_goal g) g.answer_terms before ts after) (clauses_about p clauses)
 
 -- Any exceeds 1,024 words.
 unfoldable pub any_oversized : List Goal → Bool

@@ -8,7 +8,7 @@ use Rattle.rules.specs.Goals.{Marked, mark_number, goal_words, read_goals}
 
 -- Of so many answer terms, of 1,024 words or fewer and numbered as document 01 says.
 unfoldable pub goal_fits : ℕ → Goal → Bool
-goal_fits terms g = eqb (count g.answers) terms && (leb (goal_words g) 1024 && numbered 0 (vars_goal g))
+goal_fits terms g = eqb (count g.answer_terms) terms && (leb (goal_words g) 1024 && numbered 0 (vars_goal g))
 
 -- Pending ones are marked 0 and parked ones 1 to 4.
 unfoldable pub pending_fits : ℕ → Marked → Bool

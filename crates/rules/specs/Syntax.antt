@@ -31,7 +31,7 @@ pub record Deck : Type 0 where
 
 -- A goal (Clark's query under evaluation) is a list of answer terms, then literals.
 pub record Goal : Type 0 where
-  pub answers : Terms
+  pub answer_terms : Terms
   pub literals : List Literal
 
 -- A literal's predicate and its terms; the literals with a change of their terms.
@@ -53,7 +53,7 @@ map_literals F (l ∷ ls) = map_literal F l ∷ map_literals F ls
 
 -- A goal with a change of all its terms.
 abbrev pub map_goal : (Terms → Terms) → Goal → Goal
-map_goal F g = record { answers = F g.answers; literals = map_literals F g.literals }
+map_goal F g = record { answer_terms = F g.answer_terms; literals = map_literals F g.literals }
 
 -- The variables where they stand, from left to right.
 abbrev pub vars_literals : List Literal → List ℕ
@@ -61,7 +61,7 @@ vars_literals [] = []
 vars_literals (l ∷ ls) = vars_terms (arguments l) (vars_literals ls)
 
 abbrev pub vars_goal : Goal → List ℕ
-vars_goal g = vars_terms g.answers (vars_literals g.literals)
+vars_goal g = vars_terms g.answer_terms (vars_literals g.literals)
 
 -- The least number above every variable.
 abbrev pub top_literals : List Literal → ℕ
@@ -69,4 +69,4 @@ top_literals [] = 0
 top_literals (l ∷ ls) = max (tops (arguments l)) (top_literals ls)
 
 abbrev pub top_goal : Goal → ℕ
-top_goal g = max (tops g.answers) (top_literals g.literals)
+top_goal g = max (tops g.answer_terms) (top_literals g.literals)

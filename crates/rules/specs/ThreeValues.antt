@@ -69,7 +69,7 @@ query_value I query choice = literals_value I (individual choice) query
 -- The value that a goal gives at a choice: the highest of its literals, over the fillings of its own variables under which its answer terms
 -- are the choice's individuals. The highest value that the goals of a list give.
 abbrev pub goal_value : Interpretation3 → Inds → Goal → Value
-goal_value I choice g = highest_over (λ ν. evals ν g.answers ≡ choice) (λ ν. literals_value I ν g.literals)
+goal_value I choice g = highest_over (λ ν. evals ν g.answer_terms ≡ choice) (λ ν. literals_value I ν g.literals)
 
 unfoldable pub goals_value : Interpretation3 → Inds → List Marked → Value
 goals_value I choice ms = highest (λ m. goal_value I choice m.goal) ms

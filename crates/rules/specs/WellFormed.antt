@@ -73,7 +73,7 @@ pub record WfQuery (S : List Symbol) (query : List Literal) : Type 0 where
 
 -- A goal of at most 1,024 words, numbered by first appearance, answer terms first.
 pub record WfGoal (S : List Symbol) (g : Goal) : Type 0 where
-  pub answers : WfTerms S g.answers
+  pub answer_terms : WfTerms S g.answer_terms
   pub literals : WfLiterals S g.literals
   pub in_order : InOrder (vars_goal g)
   pub short : goal_words g ≤ 1024

@@ -53,7 +53,7 @@ small-mark true k e = leb-true k 4 ((and-eq-true_iff (leb 1 k) (leb k 4)).0 e).1
 -- A GOAL THAT FITS
 record Fitting (parked : Bool) (terms : ℕ) (m : Marked) : Type 0 where
   mark : mark_fits parked (mark_number m.mark) ≡ true
-  many : count m.goal.answers ≡ terms
+  many : count m.goal.answer_terms ≡ terms
   short : goal_words m.goal ≤ 1024
   in_order : numbered 0 (vars_goal m.goal) ≡ true
 
@@ -61,9 +61,9 @@ module _ (terms : ℕ) (m : Marked) where
   goal-parts : goal_fits terms m.goal ≡ true → (parked : Bool) → mark_fits parked (mark_number m.mark) ≡ true → Fitting parked terms m
   unfolding goal_fits
   goal-parts e parked k =
-      let r = (and-eq-true_iff (eqb (count m.goal.answers) terms) _).0 e in
+      let r = (and-eq-true_iff (eqb (count m.goal.answer_terms) terms) _).0 e in
       let s = (and-eq-true_iff (leb (goal_words m.goal) 1024) _).0 r.1 in
-      record { mark = k; many = eqb-true (count m.goal.answers) terms r.0; short = leb-true (goal_words m.goal) 1024 s.0; in_order = s.1 }
+      record { mark = k; many = eqb-true (count m.goal.answer_terms) terms r.0; short = leb-true (goal_words m.goal) 1024 s.0; in_order = s.1 }
 
   fits-parts : (parked : Bool) → fits_as parked terms m ≡ true → Fitting parked terms m
   unfolding pending_fits parked_fits
@@ -72,7 +72,7 @@ module _ (terms : ℕ) (m : Marked) where
 
   parts-goal : (parked : Bool) → Fitting parked terms m → goal_fits terms m.goal ≡ true
   unfolding goal_fits
-  parts-goal parked f = rw (eq-eqb (count m.goal.answers) terms f.many, le-leb (goal_words m.goal) 1024 f.short) f.in_order
+  parts-goal parked f = rw (eq-eqb (count m.goal.answer_terms) terms f.many, le-leb (goal_words m.goal) 1024 f.short) f.in_order
 
   parts-fit : (parked : Bool) → Fitting parked terms m → fits_as parked terms m ≡ true
   unfolding pending_fits parked_fits
@@ -120,18 +120,18 @@ pub record Tested (S : List Symbol) (parked : Bool) (terms : ℕ) (ws : List ℕ
 
 module _ (S : List Symbol) (parked : Bool) (terms : ℕ) where
   -- Every goal that fits passes them.
-  cells-pass : (m : Marked) → WfMarked S m → Fitting parked terms m → cells_test S terms (goal_cells m.goal) (sizes m.goal.answers) ≡ true
+  cells-pass : (m : Marked) → WfMarked S m → Fitting parked terms m → cells_test S terms (goal_cells m.goal) (sizes m.goal.answer_terms) ≡ true
   unfolding goal_cells
   cells-pass m w f =
       let g = m.goal in
-      let c : List ℕ = write_terms g.answers (write_literals g.literals) in
+      let c : List ℕ = write_terms g.answer_terms (write_literals g.literals) in
       let s : scan S c terms 0 ≡ true =
-      scan-row S c terms 0 ∙ ap (λ o. scan_row o terms 0) (read-row S g.answers g.literals w.answers w.literals (goal-small S g w))
-      ∙ rw (eq-eqb (count g.answers) terms f.many) f.in_order in
-      (and-eq-true_iff (scan S c terms 0) _).1 (s, eq-eqb (lead S c) (sizes g.answers) (row-leads S g.answers g.literals w.answers w.literals))
+      scan-row S c terms 0 ∙ ap (λ o. scan_row o terms 0) (read-row S g.answer_terms g.literals w.answer_terms w.literals (goal-small S g w))
+      ∙ rw (eq-eqb (count g.answer_terms) terms f.many) f.in_order in
+      (and-eq-true_iff (scan S c terms 0) _).1 (s, eq-eqb (lead S c) (sizes g.answer_terms) (row-leads S g.answer_terms g.literals w.answer_terms w.literals))
 
   written-tested : (m : Marked) (rest : List ℕ) → WfMarked S m → Fitting parked terms m
-      → Tested S parked terms (write_goal m ++ rest) (goal_words m.goal + 4096 * mark_number m.mark) (sizes m.goal.answers) ((goal_words m.goal + 4096 * mark_number m.mark) % 4096)
+      → Tested S parked terms (write_goal m ++ rest) (goal_words m.goal + 4096 * mark_number m.mark) (sizes m.goal.answer_terms) ((goal_words m.goal + 4096 * mark_number m.mark) % 4096)
   unfolding write_goal goal_words
   written-tested m rest w f =
       let c = goal_cells m.goal in
@@ -153,7 +153,7 @@ module _ (S : List Symbol) (parked : Bool) (terms : ℕ) where
   goal-tested ws m rest e t =
       let r = goal-reads S ws m rest e in
       let f = fits-parts terms m parked t in
-      let w : WfMarked S m = record { answers = r.answers; literals = r.literals; in_order = f.in_order; short = f.short } in
+      let w : WfMarked S m = record { answer_terms = r.answer_terms; literals = r.literals; in_order = f.in_order; short = f.short } in
       rw r.written (unfold write_goal in written-tested m rest w f)
 
   -- Whatever passes them is such a goal.
@@ -164,18 +164,18 @@ module _ (S : List Symbol) (parked : Bool) (terms : ℕ) where
     pub words : goal_words goal.goal ≡ n
 
   row-goal : (w n : ℕ) (us : List ℕ) → w % 4096 ≡ 2 + n → n ≤ 1022 → n ≤ length us → mark_fits parked (w / 4096) ≡ true
-      → (ts : Terms) (ls : List Literal) → Reads S (take n us) ts ls → count ts ≡ terms → numbered 0 (vars_goal (record { answers = ts; literals = ls })) ≡ true
+      → (ts : Terms) (ls : List Literal) → Reads S (take n us) ts ls → count ts ≡ terms → numbered 0 (vars_goal (record { answer_terms = ts; literals = ls })) ≡ true
       → (k : (m : Mark) × (mark_number m ≡ w / 4096)) → (rest : List ℕ) → drop n us ≡ rest
       → (m : Marked) × (w ∷ sizes ts ∷ us ≡ write_goal m ++ rest) × WfMarked S m × Fitting parked terms m × (goal_words m.goal ≡ 2 + n)
   unfolding write_goal goal_words goal_cells
   row-goal w n us e small fits mk ts ls r many in_order k rest d =
-      let g : Goal = record { answers = ts; literals = ls } in
+      let g : Goal = record { answer_terms = ts; literals = ls } in
       let l : length (goal_cells g) ≡ n = ap length (sym r.written) ∙ length-take-le n us fits in
       let first : w ≡ goal_words g + 4096 * mark_number k.0 = omega (arith, k.1) in
       let after : us ≡ goal_cells g ++ rest = sym (take-append-drop n us) ∙ ap₂ ◌++◌ r.written d in (
         marked k.0 g,
         ap₂ ◌∷◌ first (ap (◌∷◌ (sizes ts)) after),
-        record { answers = r.terms; literals = r.literals; in_order = in_order; short = omega arith },
+        record { answer_terms = r.terms; literals = r.literals; in_order = in_order; short = omega arith },
         record { mark = rw k.1 mk; many = many; short = omega arith; in_order = in_order },
         omega arith,
       )

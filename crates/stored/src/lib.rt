@@ -23,15 +23,15 @@ fn front(symbols: &[u16], cells: &[u16]) -> usize
         .count()
 }
 
-// The cells of a goal of so many answer terms, which take `answers` cells.
-fn cells_fit(symbols: &[u16], cells: &[u16], answers: usize, terms: u64) -> bool
+// The cells of a goal of so many answer terms, which take `answer_cells` cells.
+fn cells_fit(symbols: &[u16], cells: &[u16], answer_cells: usize, terms: u64) -> bool
     ensures { result ≡ (scan (symbols_of symbols.now) cells.now terms 0
-        && eqb (lead (symbols_of symbols.now) cells.now) answers) }
+        && eqb (lead (symbols_of symbols.now) cells.now) answer_cells) }
 {
     let Ok(terms) = usize::try_from(terms) else {
         return false;
     };
-    terms::row(symbols, cells, terms) && front(symbols, cells) == answers
+    terms::row(symbols, cells, terms) && front(symbols, cells) == answer_cells
 }
 
 // Whether a mark is a pending goal's, 0, or a parked goal's, 1 to 4: the numbers of `goals::Mark` in the store.
@@ -68,7 +68,7 @@ impl Store<'_> {
             return None;
         }
         let first = usize::from(words[at]);
-        let answers = usize::from(words[at + 1]);
+        let answer_cells = usize::from(words[at + 1]);
         let n = first % MARK;
         if !mark_fits(first / MARK, self.parked) {
             return None;
@@ -84,7 +84,7 @@ impl Store<'_> {
         }
         let from = at + 2;
         let end = at + n;
-        if !cells_fit(self.symbols, &words[from..end], answers, self.terms) {
+        if !cells_fit(self.symbols, &words[from..end], answer_cells, self.terms) {
             return None;
         }
         Some(end)

@@ -7,7 +7,7 @@ use Rattle.text.specs.declared.arguments.Count.{Count}
 use Rattle.text.specs.declared.tokens.Kind.TheVariants.{Ending, Opening}
 use Rattle.text.specs.declared.tokens.Token.{Token as Scanned}
 use Rattle.text.specs.Kinds.{kind_of}
-use Rattle.text.specs.Scan.{tokens_from, Next}
+use Rattle.text.specs.Scan.{tokens_from, NextToken}
 use Rattle.text.specs.Counting.{Counts}
 use Rattle.text.proofs.TokenLaws.{not-ending}
 use Rattle.text.proofs.ReadLaws.{token_of}
@@ -48,7 +48,7 @@ pub record CountTo (text : List ℕ) (at place : ℕ) (c : Count) : Type 0 where
 abbrev rest_of : List ℕ → Scanned → List Token
 rest_of text r = tokens_from r.kind text r.to
 
-module _ (text : List ℕ) (at : ℕ) (r : Scanned) (n : Next text at r) where
+module _ (text : List ℕ) (at : ℕ) (r : Scanned) (n : NextToken text at r) where
   pub no_arguments : (r.kind ≡ Opening → ⊥) → 0 ≡ given_arguments (tokens 0 (drop at text))
   unfolding given_arguments
   no_arguments f = let e : is opening (token_of text r) ≡ false = grind (arith, f) in sym (ap given_arguments n.scanned ∙ rw (e, given_arguments) refl)
@@ -66,7 +66,7 @@ module _ (text : List ℕ) (at : ℕ) (r : Scanned) (n : Next text at r) where
         same = given ∙ ap (λ ts. suc (commas 0 ts)) (not-ending r.kind text r.to f) ∙ omega arith;
       }
 
-module _ (text : List ℕ) (at place : ℕ) (k : Count) (r : Scanned) (n : Next text place r) (c : CountTo text at place k) where
+module _ (text : List ℕ) (at place : ℕ) (k : Count) (r : Scanned) (n : NextToken text place r) (c : CountTo text at place k) where
   pub within : (r.kind ≡ Ending → ⊥) → length text < 18446744073709551616 → (k.depth < 18446744073709551615) × (k.begun < 18446744073709551615)
   within f l = let p = n.progress f in (omega (arith, c.shallow, n.later, n.inside), omega (arith, c.few, n.later, n.inside))
 

@@ -8,7 +8,7 @@ use Rattle.text_rules.specs.Text.{text_unread, place_of}
 use Rattle.text.specs.declared.tokens.Kind.TheVariants.{Ending, Opening}
 use Rattle.text.specs.declared.tokens.Token.{Token}
 use Rattle.text.specs.Kinds.{kind_of}
-use Rattle.text.specs.Scan.{tokens_from, Next}
+use Rattle.text.specs.Scan.{tokens_from, NextToken}
 use Rattle.text.specs.Steps.{depth_of}
 use Rattle.text.specs.declared.start.Start.{Start}
 use Rattle.text.specs.Starts.{Starts}
@@ -29,7 +29,7 @@ read_none text r h = record { inside = h.inside; shallow = omega arith; same = a
 abbrev pub token_of : List ℕ → Token → rules.Token
 token_of text r = token (kind_of r.kind) (take (r.to - r.from) (drop r.from text)) (length text - r.from)
 
-module _ (text : List ℕ) (s : State) (at : ℕ) (r : Token) (n : Next text at r) (d : ReadTo text s at) where
+module _ (text : List ℕ) (s : State) (at : ℕ) (r : Token) (n : NextToken text at r) (d : ReadTo text s at) where
   abbrev this : rules.Token
   this = token_of text r
 

@@ -11,7 +11,7 @@ use Rattle.text.specs.declared.tokens.Kind.{Kind}
 use Rattle.text.specs.declared.tokens.Kind.TheVariants.{Name, Dot}
 use Rattle.text.specs.declared.tokens.Token.{Token}
 use Rattle.text.specs.Kinds.{kind_of}
-use Rattle.text.specs.Scan.{tokens_from, Next}
+use Rattle.text.specs.Scan.{tokens_from, NextToken}
 use Rattle.text.specs.Starts.{Starts}
 use Rattle.text.proofs.TokenLaws.{not-ending}
 use Rattle.text.proofs.GrammarLaws.{same_pointwise}
@@ -36,7 +36,7 @@ and-false : (b : Bool) → (b && false) ≡ false
 and-false true = refl
 and-false false = refl
 
-module _ (text : List ℕ) (r : Token) (n : Next text 0 r) where
+module _ (text : List ℕ) (r : Token) (n : NextToken text 0 r) where
   first : tokens 0 text ≡ token_of text r ∷ tokens_from r.kind text r.to
   first = n.scanned
 
@@ -44,7 +44,7 @@ module _ (text : List ℕ) (r : Token) (n : Next text 0 r) where
   unfolding begins_v2
   other-start e = unmarked text (ap begins_v2 first ∙ rw e refl)
 
-  module _ (q : Token) (m : Next text r.to q) (k : r.kind ≡ Name) where
+  module _ (q : Token) (m : NextToken text r.to q) (k : r.kind ≡ Name) where
     both : tokens 0 text ≡ token_of text r ∷ token_of text q ∷ tokens_from q.kind text q.to
     both = first ∙ ap {B = List rules.Token} (token_of text r ∷◌) (not-ending r.kind text r.to (λ e. cc) ∙ m.scanned)
 

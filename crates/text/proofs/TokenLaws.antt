@@ -18,7 +18,7 @@ use Rattle.text.specs.declared.tokens.Numeral.{Numeral}
 use Rattle.text.specs.declared.classes.Class.{Class}
 use Rattle.text.specs.declared.classes.Class.TheVariants.{Unknown, Space}
 use Rattle.text.specs.Kinds.{kind_of, value_in, rule_class}
-use Rattle.text.specs.Scan.{Skipped, DigitsAt, single, NumberKind, NegativeKind, Scanned, tokens_from, Next}
+use Rattle.text.specs.Scan.{Skipped, DigitsAt, single, NumberKind, NegativeKind, Scanned, tokens_from, NextToken}
 use Rattle.text.proofs.ScanLaws.{longest-take, up-to-end}
 
 -- What a byte's class says of it.
@@ -399,7 +399,7 @@ module _ (text : List ℕ) (at from : ℕ) (s : Skipped text at from) where
       ∙ ap {B = List rules.Token} (token k ys (length text - from) ∷◌)
       (skip-drop (length ys - 1) (drop (suc from) text) ∙ ap (tokens 0) (drop-drop (length ys - 1) (suc from) text ∙ ap (λ n. drop n text) there))
 
-  pub next-scanned : (r : Token) → from < length text → Scanned text from r → Next text at r
+  pub next-scanned : (r : Token) → from < length text → Scanned text from r → NextToken text at r
   next-scanned r h t =
       let all = token-tokens r.to (kind_of r.kind) h t.later t.inside t.scanned in
       record {
@@ -414,7 +414,7 @@ module _ (text : List ℕ) (at from : ℕ) (s : Skipped text at from) where
         amount = λ w q. t.amount w q ∙ ap (λ k. value_word (take (r.to - k) (drop k text))) (sym t.begins);
       }
 
-  pub next-ended : length text ≤ from → Next text at (record { kind = Ending; from = from; to = from })
+  pub next-ended : length text ≤ from → NextToken text at (record { kind = Ending; from = from; to = from })
   unfolding tokens
   next-ended h =
       let e : drop from text ≡ [] = drop_of_length-le text h in

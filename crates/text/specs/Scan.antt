@@ -56,7 +56,7 @@ tokens_from Ending text to = []
 tokens_from _ text to = tokens 0 (drop to text)
 
 -- The next token from a place on.
-pub record Next (text : List ℕ) (at : ℕ) (r : Token) : Type 0 where
+pub record NextToken (text : List ℕ) (at : ℕ) (r : Token) : Type 0 where
   pub later : at ≤ r.from
   pub forward : r.from ≤ r.to
   pub progress : (r.kind ≡ Ending → ⊥) → r.from < r.to

@@ -4,22 +4,22 @@ use Rattle.std.specs.Iterator.{Count, at_most}
 use Rattle.text.specs.declared.tokens.Kind.TheVariants.{Ending}
 use Rattle.text.specs.declared.tokens.Token.{Token}
 use Rattle.text.specs.declared.walk.Tokens.{Tokens}
-use Rattle.text.specs.Scan.{Next}
+use Rattle.text.specs.Scan.{NextToken}
 
 -- The end of the text is the next token.
-pub record Ended (text : List ℕ) (at : ℕ) : Type 0 where
+pub record TextEnds (text : List ℕ) (at : ℕ) : Type 0 where
   pub token : Token
-  pub next : Next text at token
+  pub next : NextToken text at token
   pub kind : token.kind ≡ Ending
 
 -- The next token is no end.
 pub record Goes (text : List ℕ) (at : ℕ) (r : Token) : Type 0 where
-  pub next : Next text at r
+  pub next : NextToken text at r
   pub in_text : r.kind ≡ Ending → ⊥
 
 abbrev pub Finds : List ℕ → ℕ → Option Token → Type 0
 Finds text at (Some r) = Goes text at r
-Finds text at None = Ended text at
+Finds text at None = TextEnds text at
 
 abbrev pub place_after : ℕ → Option Token → ℕ
 place_after at (Some r) = r.to

@@ -2,7 +2,7 @@
 ghost use Rattle.std.specs.Prelude.{◌≡◌, ◌+◌, ◌-◌, ◌≤◌, ◌<◌, ◌⊎◌, length, get_or, take, drop, min};
 ghost use Rattle.std.specs.List.{prefix_len};
 ghost use Rattle.text_rules.specs.TextTokens.{space, is_class, letter, zero_digit, digit, underscore, colon, minus, class_of, word_byte, digit_byte, longest, numeral, value};
-ghost use Rattle.text.specs.Scan.{Skipped, DigitsAt, single, NumberKind, NegativeKind, Scanned, Next};
+ghost use Rattle.text.specs.Scan.{Skipped, DigitsAt, single, NumberKind, NegativeKind, Scanned, NextToken};
 
 use crate::classes::{Class, class_of, is_digit, is_space, is_word};
 
@@ -241,7 +241,7 @@ fn token_at(text: &[u8], from: usize) -> Token
 // The next token from `at` on.
 pub fn next_token(text: &[u8], at: usize) -> Token
     requires { at ≤ length text.now }
-    ensures { Next text.now at result }
+    ensures { NextToken text.now at result }
 {
     let from = skip_spaces(text, at);
     if from < text.len() {

@@ -74,29 +74,29 @@ module _ (F : Format) (S : List Symbol) (ds : List Declaration) (w : Declares F 
   right-number f k rest h = rw ((number-found f h.0 h.1).0, symbol_number)
 
   -- Entries in front of others: nothing is misused, and there are n cells.
-  abbrev Stands : List Entry → List Entry → (List ℕ → List ℕ) → ℕ → Type 0
-  Stands es fs write n =
+  abbrev StandFor : List Entry → List Entry → (List ℕ → List ℕ) → ℕ → Type 0
+  StandFor es fs write n =
       (misused ds es ≡ misused ds fs) × (map (entry_cell ds) es ≡ write (map (entry_cell ds) fs)) × ((at : ℕ) → starts_from at es ≡ starts_from (at + n) fs)
 
-  stands-none : (es : List Entry) → Stands es es (λ x. x) 0
+  stands-none : (es : List Entry) → StandFor es es (λ x. x) 0
   stands-none es = (refl, refl, λ at. ap (λ k. starts_from k es) (omega arith))
 
   stands-join :
-      (es fs gs : List Entry) (write write' : List ℕ → List ℕ) (n m : ℕ) → Stands es fs write n → Stands fs gs write' m
-      → Stands es gs (λ x. write (write' x)) (n + m)
+      (es fs gs : List Entry) (write write' : List ℕ → List ℕ) (n m : ℕ) → StandFor es fs write n → StandFor fs gs write' m
+      → StandFor es gs (λ x. write (write' x)) (n + m)
   stands-join es fs gs write write' n m a b =
       (a.0 ∙ b.0, a.1 ∙ ap write b.1, λ at. a.2 at ∙ b.2 (at + n) ∙ ap (λ k. starts_from k gs) (omega arith))
 
-  stands-variable : (v : ℕ) (es : List Entry) → Stands (a_variable v ∷ es) es ((32768 + v) ∷◌) 1
+  stands-variable : (v : ℕ) (es : List Entry) → StandFor (a_variable v ∷ es) es ((32768 + v) ∷◌) 1
   unfolding misused entry_cell starts_from
   stands-variable v es = (refl, refl, λ at. ap (λ k. starts_from k es) (omega arith))
 
-  stands-symbol : (f k : ℕ) (rest : List ℕ) (es : List Entry) → Has S f k → Stands (a_symbol (use_of f k rest) ∷ es) es (f ∷◌) 1
+  stands-symbol : (f k : ℕ) (rest : List ℕ) (es : List Entry) → Has S f k → StandFor (a_symbol (use_of f k rest) ∷ es) es (f ∷◌) 1
   unfolding misused entry_cell starts_from
   stands-symbol f k rest es h =
       (rw (well-used f k rest h, misused), ap {B = List ℕ} (◌∷ map (entry_cell ds) es) (right-number f k rest h), λ at. ap (λ k. starts_from k es) (omega arith))
 
-  stands-negated : (f k : ℕ) (rest : List ℕ) (es : List Entry) → Has S f k → Stands (a_negated (use_of f k rest) ∷ es) es ((16384 + f) ∷◌) 1
+  stands-negated : (f k : ℕ) (rest : List ℕ) (es : List Entry) → Has S f k → StandFor (a_negated (use_of f k rest) ∷ es) es ((16384 + f) ∷◌) 1
   unfolding misused entry_cell starts_from
   stands-negated f k rest es h = (
     rw (well-used f k rest h, misused),
@@ -105,20 +105,20 @@ module _ (F : Format) (S : List Symbol) (ds : List Declaration) (w : Declares F 
   )
 
   mutual
-    stands-term : (t : Term) (rest : List ℕ) (es : List Entry) → TextTerm S t → Stands (term_entries t rest es) es (write_term t) (size t)
+    stands-term : (t : Term) (rest : List ℕ) (es : List Entry) → TextTerm S t → StandFor (term_entries t rest es) es (write_term t) (size t)
     stands-term (var v) rest es h = stands-variable v es
     stands-term (app f us) rest es h =
         let a = stands-symbol f (count us) (arguments_text us rest) (arguments_entries us rest es) h.0 in
         let b = stands-arguments us rest es h.1 in
         (a.0 ∙ b.0, a.1 ∙ ap {B = List ℕ} (f ∷◌) b.1, λ at. a.2 at ∙ b.2 (at + 1) ∙ ap (λ k. starts_from k es) (omega arith))
 
-    stands-arguments : (us : Terms) (rest : List ℕ) (es : List Entry) → TextTerms S us → Stands (arguments_entries us rest es) es (write_terms us) (sizes us)
+    stands-arguments : (us : Terms) (rest : List ℕ) (es : List Entry) → TextTerms S us → StandFor (arguments_entries us rest es) es (write_terms us) (sizes us)
     stands-arguments nil rest es h = stands-none es
     stands-arguments (cons u us) rest es h =
         stands-join (term_entries u (more_text us (41 ∷ rest)) (more_entries us (41 ∷ rest) es)) (more_entries us (41 ∷ rest) es) es (write_term u) (write_terms us) (size u) (sizes us)
         (stands-term u (more_text us (41 ∷ rest)) (more_entries us (41 ∷ rest) es) h.0) (stands-more us (41 ∷ rest) es h.1)
 
-    stands-more : (us : Terms) (rest : List ℕ) (es : List Entry) → TextTerms S us → Stands (more_entries us rest es) es (write_terms us) (sizes us)
+    stands-more : (us : Terms) (rest : List ℕ) (es : List Entry) → TextTerms S us → StandFor (more_entries us rest es) es (write_terms us) (sizes us)
     stands-more nil rest es h = stands-none es
     stands-more (cons u us) rest es h =
         stands-join (term_entries u (more_text us rest) (more_entries us rest es)) (more_entries us rest es) es (write_term u) (write_terms us) (size u) (sizes us)
@@ -356,7 +356,7 @@ literal-behind (pos p ts) xs ys = ap {B = List ℕ} (p ∷◌) (terms-behind ts 
 literal-behind (neg p ts) xs ys = ap {B = List ℕ} ((16384 + p) ∷◌) (terms-behind ts xs ys)
 
 module _ (F : Format) (S : List Symbol) (ds : List Declaration) (w : Declares F 0 S ds) where
-  stands-literal : (l : Literal) (rest : List ℕ) (es : List Entry) → TextLiteral S l → Stands F S ds w (literal_entries l rest es) es (write_literal l) (suc (sizes (arguments l)))
+  stands-literal : (l : Literal) (rest : List ℕ) (es : List Entry) → TextLiteral S l → StandFor F S ds w (literal_entries l rest es) es (write_literal l) (suc (sizes (arguments l)))
   stands-literal (pos p us) rest es h =
       let a = stands-symbol F S ds w p (count us) (arguments_text us rest) (arguments_entries us rest es) h.0 in
       let b = stands-arguments F S ds w us rest es h.1 in
@@ -367,7 +367,7 @@ module _ (F : Format) (S : List Symbol) (ds : List Declaration) (w : Declares F 
       (a.0 ∙ b.0, a.1 ∙ ap {B = List ℕ} ((16384 + p) ∷◌) b.1, λ at. a.2 at ∙ b.2 (at + 1) ∙ ap (λ k. starts_from k es) (omega arith))
 
   stands-literals :
-      (ls : List Literal) (rest : List ℕ) (es : List Entry) → All (TextLiteral S) ls → Stands F S ds w (literals_entries ls rest es) es (write_literals ls ++◌) (literal_sizes ls)
+      (ls : List Literal) (rest : List ℕ) (es : List Entry) → All (TextLiteral S) ls → StandFor F S ds w (literals_entries ls rest es) es (write_literals ls ++◌) (literal_sizes ls)
   stands-literals [] rest es h = stands-none F S ds w es
   stands-literals (l ∷ ls) rest es h =
       let a = stands-literal l (literals_text ls rest) (literals_entries ls rest es) h.0 in

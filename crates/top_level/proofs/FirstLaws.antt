@@ -41,14 +41,14 @@ variables-cells (v ∷ vs) rest = ap {B = List ℕ} (λ r. (32768 + v) ∷ r) (v
 
 -- The query alone, as a goal.
 abbrev query_goal : List Literal → Goal
-query_goal q = record { answers = nil; literals = q }
+query_goal q = record { answer_terms = nil; literals = q }
 
 module _ {ar words : List ℕ} {S : List Symbol} {q : List Literal} (h : Queries ar words S q) where
   pub query-cells : GoalCells ar words 0 S (query_goal q)
   unfolding goal_cells goal_words
   query-cells = record {
     symbols = h.symbols;
-    well_formed = record { answers = tt; literals = h.well_formed.literals; in_order = h.well_formed.in_order; short = omega (arith, h.well_formed.short) };
+    well_formed = record { answer_terms = tt; literals = h.well_formed.literals; in_order = h.well_formed.in_order; short = omega (arith, h.well_formed.short) };
     goal = h.are;
     wide = refl;
   }
@@ -66,7 +66,7 @@ module _ {ar words : List ℕ} {S : List Symbol} {q : List Literal} (h : Queries
     first-size : goal_words (first_goal q) ≡ held
     first-size = omega (arith, cells-length (first_goal q), ap length first-cells, length-append (numbers n) words, numbers-length n)
 
-    first-answers : sizes (first_goal q).answers ≡ n
+    first-answers : sizes (first_goal q).answer_terms ≡ n
     unfolding first_goal
     first-answers =
         let c = variables-cells (query_variables q) [] in

@@ -15,7 +15,7 @@ use Rattle.rules.proofs.ListLaws.{all_snoc, length-unmarked}
 use Rattle.rules.proofs.GoalLaws.{goals-length, unmarked-words, goals-append, marked_words-append}
 use Rattle.words.proofs.StoreLaws.{rev, rev-fronted, parked-on, turned, read_first}
 use Rattle.goals.specs.Store.{Holding}
-use Rattle.levels.specs.Levels.{Stands}
+use Rattle.levels.specs.Levels.{LevelHolds}
 use Rattle.top_level.specs.Top.{Stored, Written, Ordered, InOrder, opening}
 use Rattle.top_level.specs.declared.Counts.{Counts}
 use Rattle.goals.proofs.HeldLaws.{pending_words, goals-first, cells-length, held-words, first-length, rest-held, still-held, first_of}
@@ -87,7 +87,7 @@ module _ {S : List Symbol} {store : List ℕ} {parked held : ℕ} {l : Level} (h
   pending-length = goals-length (unmarked l.pending) ∙ unmarked-words l.pending ∙ sym (held-words h.pending)
 
   -- The part past the parked goals has room for pending goals.
-  pub stored-stands : (gs : List Goal) → l.pending ≡ gs → Stands zeroth l gs (length (drop parked store)) (length store)
+  pub stored-stands : (gs : List Goal) → l.pending ≡ gs → LevelHolds zeroth l gs (length (drop parked store)) (length store)
   stored-stands gs e = record { pending = e; room = omega (arith, parked-words, h.inside, length-drop parked store) }
 
   -- That part with other goals, or with the same ones.
@@ -174,7 +174,7 @@ module _ {S : List Symbol} {store : List ℕ} {parked held : ℕ} {l : Level} (h
 
     -- It is parked: two reversals, and its mark.
     module _ (t : List ℕ) (e : t ≡ rev (parked + goal_words g) (parked + held) (rev parked (parked + held) store)) where
-      last-first : t ≡ write_goals l.parked ++ (goal_words g ∷ ((sizes g.answers ∷ goal_cells g) ++ (reverse (write_goals (unmarked gs)) ++ drop (parked + held) t)))
+      last-first : t ≡ write_goals l.parked ++ (goal_words g ∷ ((sizes g.answer_terms ∷ goal_cells g) ++ (reverse (write_goals (unmarked gs)) ++ drop (parked + held) t)))
       last-first =
           let ys = write_goals (unmarked gs) in
           let n : length (pending_words g) ≡ goal_words g = omega (arith, cells-length g) in
@@ -191,7 +191,7 @@ module _ {S : List Symbol} {store : List ℕ} {parked held : ℕ} {l : Level} (h
       unfolding with_parked write_goals write_goal
       goal-parked m w v =
           let ps = write_goals l.parked in
-          let cs = sizes g.answers ∷ goal_cells g in
+          let cs = sizes g.answer_terms ∷ goal_cells g in
           let rest = drop (parked + held) t in
           let others = reverse (write_goals (unmarked gs)) ++ rest in
           let new : set t parked w ≡ ps ++ (w ∷ (cs ++ others)) = ap (λ (r : List ℕ). set r parked w) last-first ∙ set_at ps (goal_words g) (cs ++ others) w parked parked-length in

@@ -19,8 +19,8 @@ use Rattle.rules.proofs.LevelLaws.{level-one_step, step-halts, step-moves, step-
 use Rattle.report.specs.Reports.{ending_of}
 use Rattle.report.specs.declared.Stop.TheVariants.{Finished, Budget, Answers}
 use Rattle.goals.specs.Store.{Holding, SomeFirst, mark_of}
-use Rattle.levels.specs.Levels.{account_of, paid_one, Stands, Turned}
-use Rattle.top_level.specs.Top.{Stored, Totalled, Topped, Started, opening, Again, evaluates, step_then, Lists, Goes, Rests, Stops, Bare, Waits, Stepped, Follows, begun, advance_by}
+use Rattle.levels.specs.Levels.{account_of, paid_one, LevelHolds, Turned}
+use Rattle.top_level.specs.Top.{Stored, Totalled, TopLevelEnds, Started, opening, Again, evaluates, step_then, Lists, Goes, Rests, Stops, Bare, Waits, Stepped, Follows, begun, advance_by}
 use Rattle.goals.specs.declared.Mark as declared
 use Rattle.top_level.specs.declared.Start.{Start}
 use Rattle.top_level.specs.declared.Totals.{Totals}
@@ -187,9 +187,9 @@ module _ {s : Started} (again : Again) {answers store : List ℕ} {p : Progress}
       all-long : length stepped-store ≡ length s.store
       all-long = same_len_mid p.parts.parked (length store - p.parts.parked) store part long ∙ r.size
 
-      stands : Stands zeroth r.level (first.first ∷ first.rest) (length (drop p.parts.parked store)) (length s.store)
+      stands : LevelHolds zeroth r.level (first.first ∷ first.rest) (length (drop p.parts.parked store)) (length s.store)
       stands =
-          subst (Stands zeroth r.level (first.first ∷ first.rest) (length (drop p.parts.parked store))) r.size
+          subst (LevelHolds zeroth r.level (first.first ∷ first.rest) (length (drop p.parts.parked store))) r.size
           (stored-stands r.stored (first.first ∷ first.rest) first.same)
 
       -- The first goals are as they were.
@@ -336,7 +336,7 @@ module _ {s : Started} {again : Again} {answers store : List ℕ} {p : Progress}
 
 -- The end, in numbers, with the goals put in order.
 pub topped : (s : Started) {ending : rules.Ending} {answers store : List ℕ} {p : Progress} (store' : List ℕ) (t : Totals) → Rests s ending answers store p
-    → ((S : List Symbol) (l : Level) → Stored S store p.parts.parked p.parts.held l → Totalled p s.budget l store' t) → Topped s.ends ending s.answers s.budget answers store' t
+    → ((S : List Symbol) (l : Level) → Stored S store p.parts.parked p.parts.held l → Totalled p s.budget l store' t) → TopLevelEnds s.ends ending s.answers s.budget answers store' t
 topped s {p = p} store' t h o =
     let k = o s.deck.symbols h.level h.stored in
     record {

@@ -233,7 +233,7 @@ pub record Totalled (p : Progress) (budget : ℕ) (l : Level) (store' : List ℕ
   pub ordered : Ordered l store' (record { pending = t.pending; parked = t.parked })
 
 -- What is left where level 0 ends so.
-pub record Topped (total : Ended) (ending : rules.Ending) (answers : List ℕ) (budget : ℕ) (answers' store' : List ℕ) (t : Totals) : Type 0 where
+pub record TopLevelEnds (total : Ended) (ending : rules.Ending) (answers : List ℕ) (budget : ℕ) (answers' store' : List ℕ) (t : Totals) : Type 0 where
   pub level : Level
   pub account : rules.Account
   pub ends : total ≡ ended ending level account
@@ -254,10 +254,10 @@ of_press r = record { steps = r.steps; cost = r.cost; answers = r.answers; pendi
 abbrev pub RunsStored : List ℕ → List ℕ → List ℕ → ℕ → ℕ → ℕ → List ℕ → List ℕ → Report → Type 0
 RunsStored deck_words answers store parked held budget answers' store' r =
     (d : Deck) (gs : List Goal) (ms : List Marked) → open_deck deck_words ≡ accepted d → Stored d.symbols store parked held (opening gs ms)
-    → Topped (evaluate_level d.clauses (length answers) (length store) 32 zeroth (opening gs ms) (rules.opening budget)) (stopped (stop_of r.stop)) answers budget answers' store' (of_report r)
+    → TopLevelEnds (evaluate_level d.clauses (length answers) (length store) 32 zeroth (opening gs ms) (rules.opening budget)) (stopped (stop_of r.stop)) answers budget answers' store' (of_report r)
 
 -- The same of a press.
 abbrev pub PressesStored : List ℕ → List ℕ → List ℕ → ℕ → ℕ → ℕ → List ℕ → List ℕ → Pressed → Type 0
 PressesStored deck_words answers store parked held budget answers' store' r =
     (d : Deck) (gs : List Goal) (ms : List Marked) → open_deck deck_words ≡ accepted d → Stored d.symbols store parked held (opening gs ms)
-    → Topped (press_level d.clauses (length answers) (length store) (opening gs ms) (rules.opening budget)) (ending_of r.advance) answers budget answers' store' (of_press r)
+    → TopLevelEnds (press_level d.clauses (length answers) (length store) (opening gs ms) (rules.opening budget)) (ending_of r.advance) answers budget answers' store' (of_press r)

@@ -10,7 +10,7 @@ ghost use Rattle.rules.specs.Goals.{Marked, first_goal};
 ghost use Rattle.rules.specs.Evaluation.{Level, stopped};
 ghost use Rattle.report.specs.Reports.{stop_of};
 ghost use Rattle.goals.specs.Store.{Holding};
-ghost use Rattle.top_level.specs.Top.{Stored, SomeStored, ParksFirst, Written, SomeWritten, Queries, SomeQuery, Ordered, Totalled, Topped, of_report, Started, Again, step_then, Goes, SomeGoes, Bare, SomeBare, Stepped, SomeStepped, Follows, Due, Stops, SomeStops, opening, SomeOpening, RunsStored, PressesStored, InOrder, begun, end_of, advance_by};
+ghost use Rattle.top_level.specs.Top.{Stored, SomeStored, ParksFirst, Written, SomeWritten, Queries, SomeQuery, Ordered, Totalled, TopLevelEnds, of_report, Started, Again, step_then, Goes, SomeGoes, Bare, SomeBare, Stepped, SomeStepped, Follows, Due, Stops, SomeStops, opening, SomeOpening, RunsStored, PressesStored, InOrder, begun, end_of, advance_by};
 
 use clauses::Clauses;
 use goals::{MARK, Mark};
@@ -230,7 +230,7 @@ fn report(end: End, budget: u32, store: &mut [u16]) -> Report
     requires stops { SomeStops store.old end }
     requires within_budget { end.at.account.left ≤ budget }
     requires short_store { length store.old ≤ 65535 }
-    ensures { (s : Started) (answers : List ℕ) → s.budget ≡ budget → Stops s answers store.old end → Topped s.ends (stopped (stop_of result.stop)) s.answers s.budget answers store.new (of_report result) }
+    ensures { (s : Started) (answers : List ℕ) → s.budget ≡ budget → Stops s answers store.old end → TopLevelEnds s.ends (stopped (stop_of result.stop)) s.answers s.budget answers store.new (of_report result) }
 {
     let End { stop, at } = end;
     let Totals {

@@ -23,7 +23,7 @@ use Rattle.naming.proofs.WalkLaws.{passed_none}
 use Rattle.text.specs.declared.start.Start.{Start}
 use Rattle.text.specs.Starts.{Starts}
 use Rattle.uses.specs.Uses.{takes}
-use Rattle.uses.specs.Batches.{Distinct, arity_in, is_arity, Put, agrees_at, FirstOther}
+use Rattle.uses.specs.Batches.{Distinct, arity_in, is_arity, ArityGiven, agrees_at, FirstOther}
 
 -- By the arity of a name's first declaration.
 element-at : (all : List rules.Declaration) (at : ℕ) (d : rules.Declaration) (ds : List rules.Declaration) → drop at all ≡ d ∷ ds → (get_elem? all at ≡ some d) × (drop (suc at) all ≡ ds)
@@ -126,7 +126,7 @@ module _ (t : Table ℕ) (found : List (Option ℕ)) (at : ℕ) (W : WalkedTo t 
             order (no p) (yes y) = differ j i y (found_below i q) (sym both)
             order (no p) (no y) = let z : i ≡ j = omega arith in f (q ∙ ap Some z)
 
-    module _ (found' : List (Option ℕ)) (size : length found' ≡ 4096) (P : Put found r (arity (symbol_of d.symbol)) found') where
+    module _ (found' : List (Option ℕ)) (size : length found' ≡ 4096) (P : ArityGiven found r (arity (symbol_of d.symbol)) found') where
       abbrev rest : List rules.Declaration
       rest = declarations 0 (tokens 0 (drop d.end t.text))
 

@@ -18,7 +18,7 @@ use Rattle.text.specs.declared.tokens.Kind.{Kind as Scanned_kind}
 use Rattle.text.specs.declared.tokens.Kind.TheVariants.{Name, Ending, Opening}
 use Rattle.text.specs.declared.tokens.Token.{Token as Scanned}
 use Rattle.text.specs.Kinds.{kind_of}
-use Rattle.text.specs.Scan.{tokens_from, Next}
+use Rattle.text.specs.Scan.{tokens_from, NextToken}
 use Rattle.text.proofs.ReadLaws.{token_of}
 use Rattle.text.proofs.TokenLaws.{not-ending}
 use Rattle.uses.specs.declared.walk.Use.{Use as Used}
@@ -109,7 +109,7 @@ takes-told text e bytes k = let ds = text_declarations text in has-told (declare
     go (some j) d q = arity-small text e j d q
 
 -- The next token, at the end of the text and before it.
-module _ (text : List ℕ) (at : ℕ) (r : Scanned) (n : Next text at r) where
+module _ (text : List ℕ) (at : ℕ) (r : Scanned) (n : NextToken text at r) where
   abbrev this : Token
   this = token_of text r
 

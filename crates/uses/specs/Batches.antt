@@ -51,7 +51,7 @@ Gathers t start (Some at) = Gathered t start at × (start < at)
 Gathers t start None = (at : ℕ) × Gathered t start at × (misuse_from t.text at ≡ none)
 
 -- An arity for a name, unless it has one.
-pub record Put (found : List (Option ℕ)) (j : Option ℕ) (arity : ℕ) (found' : List (Option ℕ)) : Type 0 where
+pub record ArityGiven (found : List (Option ℕ)) (j : Option ℕ) (arity : ℕ) (found' : List (Option ℕ)) : Type 0 where
   pub here : (i : ℕ) → j ≡ Some i → get_or found i None ≡ None → get_or found' i None ≡ Some arity
   pub old : (i a : ℕ) → j ≡ Some i → get_or found i None ≡ Some a → get_or found' i None ≡ Some a
   pub other : (i : ℕ) → (j ≡ Some i → ⊥) → get_or found' i None ≡ get_or found i None

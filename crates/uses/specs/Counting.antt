@@ -8,7 +8,7 @@ abbrev pub CountedBy : List ℕ → ℕ → Counting → List Token → Type 0
 CountedBy all at c ts = Counted all at c.met c.inner c.row.items c.given ts
 
 -- Nothing is met.
-pub record Blank (c : Counting) : Type 0 where
+pub record NothingMet (c : Counting) : Type 0 where
   pub met : c.met ≡ 0
   pub row : c.row.items ≡ []
   pub inner : c.inner ≡ 0

@@ -2,7 +2,7 @@
 ghost use Rattle.std.specs.Prelude.{◌≡◌, ℕ, ◌≤◌, ◌<◌, None, IfSome, length, get_or};
 ghost use Rattle.text_rules.specs.Text.{text_declarations};
 ghost use Rattle.text.specs.Names.{name_at};
-ghost use Rattle.uses.specs.Batches.{Distinct, arity_in, is_arity, Put, FirstOther};
+ghost use Rattle.uses.specs.Batches.{Distinct, arity_in, is_arity, ArityGiven, FirstOther};
 
 use naming::walks::Walk;
 use text::names::{Names, ROOM};
@@ -11,7 +11,7 @@ use text::readable::Readable;
 // An arity for the name of that number, if it has none yet.
 fn put(found: &mut [Option<u16>; 4096], j: Option<usize>, arity: u16)
     requires { IfSome j (λ i. i < 4096) }
-    ensures { Put found.old j arity found.new }
+    ensures { ArityGiven found.old j arity found.new }
 {
     if let Some(j) = j {
         if found[j].is_none() {

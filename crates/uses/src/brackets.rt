@@ -21,11 +21,11 @@ pub struct Counting {
 impl Counting {
     ghost use Rattle.std.specs.Prelude.{◌≡◌};
     ghost use Rattle.text_rules.specs.TextTokens.{opening, closing, comma};
-    ghost use Rattle.uses.specs.Counting.{Room, Steps, Blank};
+    ghost use Rattle.uses.specs.Counting.{Room, Steps, NothingMet};
     ghost use Rattle.uses.specs.Pairs.{mark_of};
 
     fn new() -> Self
-        ensures { Blank result }
+        ensures { NothingMet result }
     {
         Counting {
             given: [0; 4096],

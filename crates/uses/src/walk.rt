@@ -31,7 +31,7 @@ pub struct Uses<'a> {
 impl<'a> Uses<'a> {
     ghost use Rattle.text_rules.specs.TextWords.{given_arguments};
     ghost use Rattle.text.specs.declared.tokens.Kind.TheVariants.{Ending};
-    ghost use Rattle.text.specs.Scan.{Next};
+    ghost use Rattle.text.specs.Scan.{NextToken};
     ghost use Rattle.uses.specs.Pairs.{told};
 
     pub fn new(text: Readable<'a>, at: usize) -> Uses<'a>
@@ -72,7 +72,7 @@ impl<'a> Uses<'a> {
 
     // Goes on after the next token; after the last pair that is given, the next ones are counted.
     fn pass(&mut self, t: Token)
-        requires next { Next self.old.text.text.now self.old.at t }
+        requires next { NextToken self.old.text.text.now self.old.at t }
         requires more { t.kind ≡ Ending → ⊥ }
         ensures text { self.new.text ≡ self.old.text }
         ensures at { self.new.at ≡ t.to }

@@ -18,16 +18,16 @@ use Rattle.derivation.proofs.derive.Goals.{After-put_children}
 -- The number of variables is that of the goal.
 fresh : (k : goal.After-put_children) (d : Deck) (g : Goal) (gs : List Goal) (before : List Literal) (p : ℕ) (ts : Terms) (after : List Literal)
     → let a = k.args in
-    Deriving a.clauses.now.deck.words.now a.store.now a.work.now.cells.now a.held a.call.len a.call.answers a.call.s a.call.e d g gs before p ts after
-    → k.variables-n.result ≡ top_goal g
+    Deriving a.clauses.now.deck.words.now a.store.now a.work.now.cells.now a.held a.call.len a.call.answer_cells a.call.s a.call.e d g gs before p ts after
+    → k.variables-offset.result ≡ top_goal g
 fresh k d g gs before p ts after x =
-    k.variables-n.ensures (symbol_words k.args.clauses.now.deck.words.now) k.args.call.answers d.symbols g
-    (subst (λ w. GoalCells (symbol_words k.args.clauses.now.deck.words.now) w k.args.call.answers d.symbols g) (sym k.goal-cells.ensures) x.calls.goal)
+    k.variables-offset.ensures (symbol_words k.args.clauses.now.deck.words.now) k.args.call.answer_cells d.symbols g
+    (subst (λ w. GoalCells (symbol_words k.args.clauses.now.deck.words.now) w k.args.call.answer_cells d.symbols g) (sym k.goal-cells.ensures) x.calls.goal)
 
 -- The first argument's symbol is that of the literal.
 leads : (k : goal.After-put_children) (d : Deck) (g : Goal) (gs : List Goal) (before : List Literal) (p : ℕ) (ts : Terms) (after : List Literal)
     → let a = k.args in
-    Deriving a.clauses.now.deck.words.now a.store.now a.work.now.cells.now a.held a.call.len a.call.answers a.call.s a.call.e d g gs before p ts after
+    Deriving a.clauses.now.deck.words.now a.store.now a.work.now.cells.now a.held a.call.len a.call.answer_cells a.call.s a.call.e d g gs before p ts after
     → k.first_symbol-first.result ≡ leading_symbol ts
 leads k d g gs before p ts after x =
     k.first_symbol-first.ensures d.symbols g before p ts after (top_goal g) (row-calls x k.symbols.result.now k.goal-cells.result.now k.symbols.ensures k.goal-cells.ensures)
@@ -36,12 +36,12 @@ leads k d g gs before p ts after x =
 writes : (k : goal.After-put_children) (r : Option Derived) → k.put_children.result ≡ r
     → (d : Deck) (g : Goal) (gs : List Goal) (before : List Literal) (p : ℕ) (ts : Terms) (after : List Literal)
     → let a = k.args in
-    Deriving a.clauses.now.deck.words.now a.store.now a.work.now.cells.now a.held a.call.len a.call.answers a.call.s a.call.e d g gs before p ts after
+    Deriving a.clauses.now.deck.words.now a.store.now a.work.now.cells.now a.held a.call.len a.call.answer_cells a.call.s a.call.e d g gs before p ts after
     → Writes a.store.now (a.held - 2 - a.call.len) (resolvents d.clauses g before p ts after) (sum_of d g p ts) (a.left - 1) k.put_children.new.store r
 writes k r e d g gs before p ts after x =
     let a = k.args in
     subst (Writes a.store.now (a.held - 2 - a.call.len) (resolvents d.clauses g before p ts after) (sum_of d g p ts) (a.left - 1) k.put_children.new.store) e
-    (k.put_children.ensures.writes d g before p ts after (tries x k.variables-n.result k.first_symbol-first.result (fresh k d g gs before p ts after x) (leads k d g gs before p ts after x)))
+    (k.put_children.ensures.writes d g before p ts after (tries x k.variables-offset.result k.first_symbol-first.result (fresh k d g gs before p ts after x) (leads k d g gs before p ts after x)))
 
 pub overflow_sub-base : goal.overflow_sub-base
 overflow_sub-base c = omega (arith, (numbers c.requires.some_deriving.is).low)
@@ -53,7 +53,7 @@ pub first_symbol-first-requires : goal.first_symbol-first-requires
 first_symbol-first-requires c =
     let t = c.requires.some_deriving in
     record {
-      n = top_goal t.first;
+      offset = top_goal t.first;
       symbols = t.deck.symbols;
       goal = t.first;
       before = t.before;
@@ -67,9 +67,9 @@ pub put_children-requires : goal.put_children-requires
 put_children-requires c =
     let t = c.requires.some_deriving in
     let ws = c.args.clauses.now.deck.words.now in
-    let fresh : c.variables-n.result ≡ top_goal t.first =
-    c.variables-n.ensures (symbol_words ws) c.args.call.answers t.deck.symbols t.first
-    (subst (λ w. GoalCells (symbol_words ws) w c.args.call.answers t.deck.symbols t.first) (sym c.goal-cells.ensures) t.is.calls.goal) in
+    let fresh : c.variables-offset.result ≡ top_goal t.first =
+    c.variables-offset.ensures (symbol_words ws) c.args.call.answer_cells t.deck.symbols t.first
+    (subst (λ w. GoalCells (symbol_words ws) w c.args.call.answer_cells t.deck.symbols t.first) (sym c.goal-cells.ensures) t.is.calls.goal) in
     let row = row-calls t.is c.symbols.result.now c.goal-cells.result.now c.symbols.ensures c.goal-cells.ensures in
     record {
       some_tries = record {
@@ -80,7 +80,7 @@ put_children-requires c =
         terms = t.terms;
         after = t.after;
         is =
-            tries t.is c.variables-n.result c.first_symbol-first.result fresh
+            tries t.is c.variables-offset.result c.first_symbol-first.result fresh
             (c.first_symbol-first.ensures t.deck.symbols t.first t.before t.predicate t.terms t.after (top_goal t.first) row);
       };
       base = omega (arith, (numbers t.is).low, (numbers t.is).inside);
@@ -90,7 +90,7 @@ put_children-requires c =
 reaches : (k : goal.After-put_children) (r : Derived) (end : ℕ) → k.put_children.result ≡ Some r → r.held ≡ Some end
     → (d : Deck) (g : Goal) (gs : List Goal) (before : List Literal) (p : ℕ) (ts : Terms) (after : List Literal)
     → let a = k.args in
-    Deriving a.clauses.now.deck.words.now a.store.now a.work.now.cells.now a.held a.call.len a.call.answers a.call.s a.call.e d g gs before p ts after
+    Deriving a.clauses.now.deck.words.now a.store.now a.work.now.cells.now a.held a.call.len a.call.answer_cells a.call.s a.call.e d g gs before p ts after
     → a.held - 2 - a.call.len ≤ end
 reaches k r end e q d g gs before p ts after x =
     let a = k.args in
@@ -102,7 +102,7 @@ reaches k r end e q d g gs before p ts after x =
 back-fits : (k : goal.After-put_children)
     → let a = k.args in
     let cells = take a.call.len k.put_children.new.work.cells.now in
-    (length cells + 2 ≤ a.held) × (a.held ≤ length k.put_children.new.store) × (length cells ≤ 1022) × (a.call.answers ≤ 1024)
+    (length cells + 2 ≤ a.held) × (a.held ≤ length k.put_children.new.store) × (length cells ≤ 1022) × (a.call.answer_cells ≤ 1024)
 back-fits k =
     let n = numbers k.requires.some_deriving.is in
     let m = length-take-le k.args.call.len k.put_children.new.work.cells.now (kept-inside k.put_children.new.work.cells.now k.args.work.now.cells.now k.args.call.len k.put_children.ensures.cells_unchanged n.room) in

@@ -94,18 +94,18 @@ loop-i-init c =
           let q : c.from-p.result ≡ p = c.from-p.ensures ∙ (literal-cell t.calls).1 in
           let todo : left d c.into_iter-i-iterator.result ≡ tried ts (clauses_about p d.clauses) =
           ap (left d) same ∙ c.tried-candidates.ensures.tried d ts t.opens (ap row_of_symbol t.first ∙ row-leads ts) ∙ ap (λ x. tried ts (clauses_about x d.clauses)) q in
-          let by = resolvent a.attempt.n g.answers before ts after in
+          let by = resolvent a.attempt.offset g.answer_terms before ts after in
           let all = resolvents d.clauses g before p ts after in
           rw todo
-          (going-first by a.attempt.n ts all (sum_of d g p ts) a.store.now a.base a.left (tried ts (clauses_about p d.clauses))
-          (resolvents-by d.clauses g before p ts after a.attempt.n t.calls.fresh) (sum_by d g p ts a.attempt.n t.calls.fresh));
+          (going-first by a.attempt.offset ts all (sum_of d g p ts) a.store.now a.base a.left (tried ts (clauses_about p d.clauses))
+          (resolvents-by d.clauses g before p ts after a.attempt.offset t.calls.fresh) (sum_by d g p ts a.attempt.offset t.calls.fresh));
     }
 
 -- What the call says of the clause, where the goal's cells are what they were.
 attempt : (k : goal.After-try_clause) (d : Deck) (g : Goal) (before : List Literal) (p : ℕ) (ts : Terms) (after : List Literal) (c : Clause)
     → let a = k.args in
     Tries a.clauses.now.deck.words.now a.work.now.cells.now a.attempt d g before p ts after → ClauseAt d.clauses k.in-Some.i c
-    → IsAttempt (resolvent a.attempt.n g.answers before ts after c) (equations_of a.attempt.n ts c) k.loop-i.rest k.try_clause.new.work.draft.child k.try_clause.result
+    → IsAttempt (resolvent a.attempt.offset g.answer_terms before ts after c) (equations_of a.attempt.offset ts c) k.loop-i.rest k.try_clause.new.work.draft.child k.try_clause.result
 attempt k d g before p ts after c t place =
     let h = k.loop-i.invariant in
     k.try_clause.ensures.attempt d g before p ts after c (tries-kept k.loop-i.work.cells.now h.goal_cells t) place
@@ -144,10 +144,10 @@ returns-in_err-given c =
     record {
       writes = λ d g before p ts after t.
           let r = clause (goal.at.returns-in_err-given c).In-Some d g before p ts after t in
-          let by = resolvent a.attempt.n g.answers before ts after in
+          let by = resolvent a.attempt.offset g.answer_terms before ts after in
           let all = resolvents d.clauses g before p ts after in
-          let unpaid = going-unpaid by a.attempt.n ts all (sum_of d g p ts) a.store.now a.base a.left r.clause (left d c.next.new.self) r.first (h.going d g before p ts after t)
-          (subst (IsAttempt (by r.clause) (equations_of a.attempt.n ts r.clause) c.loop-i.rest c.try_clause.new.work.draft.child) c.in_err-given.was (attempt k d g before p ts after r.clause t r.at)) in
+          let unpaid = going-unpaid by a.attempt.offset ts all (sum_of d g p ts) a.store.now a.base a.left r.clause (left d c.next.new.self) r.first (h.going d g before p ts after t)
+          (subst (IsAttempt (by r.clause) (equations_of a.attempt.offset ts r.clause) c.loop-i.rest c.try_clause.new.work.draft.child) c.in_err-given.was (attempt k d g before p ts after r.clause t r.at)) in
           rw c.from_residual.ensures unpaid;
       cells_unchanged = c.try_clause.ensures.cells_unchanged ∙ h.goal_cells;
     }
@@ -161,17 +161,17 @@ gave : (k : goal.After-try_clause) (given : Resolved) (l : ℕ) → k.try_clause
     → (d : Deck) (g : Goal) (before : List Literal) (p : ℕ) (ts : Terms) (after : List Literal) (c : Clause)
     → let a = k.args in
     Tries a.clauses.now.deck.words.now a.work.now.cells.now a.attempt d g before p ts after → ClauseAt d.clauses k.in-Some.i c
-    → (equations_of a.attempt.n ts c + l ≡ k.loop-i.rest) × IsResolvent (resolvent a.attempt.n g.answers before ts after c) k.try_clause.new.work.draft.child given
+    → (equations_of a.attempt.offset ts c + l ≡ k.loop-i.rest) × IsResolvent (resolvent a.attempt.offset g.answer_terms before ts after c) k.try_clause.new.work.draft.child given
 gave k given l e d g before p ts after c t place =
-    let n = k.args.attempt.n in
-    subst (IsAttempt (resolvent n g.answers before ts after c) (equations_of n ts c) k.loop-i.rest k.try_clause.new.work.draft.child) e (attempt k d g before p ts after c t place)
+    let n = k.args.attempt.offset in
+    subst (IsAttempt (resolvent n g.answer_terms before ts after c) (equations_of n ts c) k.loop-i.rest k.try_clause.new.work.draft.child) e (attempt k d g before p ts after c t place)
 
 pub put_child-held-requires : goal.put_child-held-requires
 put_child-held-requires c =
     let k = (goal.at.put_child-held-requires c).After-try_clause in
     let t = c.requires.some_tries in
     let r = clause (goal.at.put_child-held-requires c).In-Some t.deck t.goal t.before t.predicate t.terms t.after t.is in
-    given-fits (resolvent c.args.attempt.n t.goal.answers t.before t.terms t.after r.clause) c.try_clause.new.work.draft.child c.in_ok-given.given c.loop-i.held
+    given-fits (resolvent c.args.attempt.offset t.goal.answer_terms t.before t.terms t.after r.clause) c.try_clause.new.work.draft.child c.in_ok-given.given c.loop-i.held
     (gave k c.in_ok-given.given c.in_ok-given.l c.in_ok-given.was t.deck t.goal t.before t.predicate t.terms t.after r.clause t.is r.at).1
     (far k)
 
@@ -199,16 +199,16 @@ loop-i-preserved c =
       predicate = steps.predicate ∙ h.invariant.predicate;
       few = omega (arith, same, h.invariant.few);
       counted = λ e q.
-          let most = placed-few h.store draft x.new.store x.result (resolvent a.attempt.n t₀.goal.answers t₀.before t₀.terms t₀.after r₀.clause) h.held given
+          let most = placed-few h.store draft x.new.store x.result (resolvent a.attempt.offset t₀.goal.answer_terms t₀.before t₀.terms t₀.after r₀.clause) h.held given
           (a.base + 1024 * 8192 - 1024 * (length s'.numbers.now - s'.next)) (gave k given rest c.in_ok-given.was t₀.deck t₀.goal t₀.before t₀.predicate t₀.terms t₀.after r₀.clause t₀.is r₀.at).1
           x.ensures (λ e' q'. omega (arith, h.invariant.counted e' q', same, later, s'.next_in)) e q in
           omega (arith, most, same, h.invariant.few);
       going = λ d g before p ts after t.
           let r = clause some d g before p ts after t in
-          let by = resolvent a.attempt.n g.answers before ts after in
+          let by = resolvent a.attempt.offset g.answer_terms before ts after in
           let all = resolvents d.clauses g before p ts after in
           let v = gave k given rest c.in_ok-given.was d g before p ts after r.clause t r.at in
-          going_on by a.attempt.n ts all (sum_of d g p ts) a.store.now a.base a.left r.clause (left d s') r.first (h.invariant.going d g before p ts after t) draft given rest v.0 v.1
+          going_on by a.attempt.offset ts all (sum_of d g p ts) a.store.now a.base a.left r.clause (left d s') r.first (h.invariant.going d g before p ts after t) draft given rest v.0 v.1
           h.invariant.store_length x.new.store x.result x.ensures;
     }
 
@@ -221,7 +221,7 @@ returns c =
       writes = λ d g before p ts after t.
           let e = ap (λ c. open_deck c.deck.words.now) h.invariant.same_clauses ∙ t.opens in
           let none : left d s ≡ [] = subst (λ o. Leaves d.clauses s.p (left d s) o (left d c.next.new.self)) c.in-None.is (c.next.ensures.steps.leaves d e) in
-          going-last (resolvent a.attempt.n g.answers before ts after) a.attempt.n ts (resolvents d.clauses g before p ts after) (sum_of d g p ts) a.store.now a.base a.left
+          going-last (resolvent a.attempt.offset g.answer_terms before ts after) a.attempt.offset ts (resolvents d.clauses g before p ts after) (sum_of d g p ts) a.store.now a.base a.left
           (rw none at (h.invariant.going d g before p ts after t));
       cells_unchanged = h.invariant.goal_cells;
     }

@@ -20,7 +20,7 @@ pub record Loop (clauses : Clauses) (store₀ cells₀ : List ℕ) (base budget 
   pub few : length tried.numbers.now ≤ 8192
   pub counted : (k : ℕ) → end ≡ Some k → k + 1024 * (length tried.numbers.now - tried.next) ≤ base + 1024 * 8192
   pub going : (d : Deck) (g : Goal) (before : List Literal) (p : ℕ) (ts : Terms) (after : List Literal) → Tries clauses.deck.words.now cells₀ a d g before p ts after
-      → Going (resolvent a.n g.answers before ts after) a.n ts (resolvents d.clauses g before p ts after) (sum_of d g p ts) store₀ base budget store end rest (left d tried)
+      → Going (resolvent a.offset g.answer_terms before ts after) a.offset ts (resolvents d.clauses g before p ts after) (sum_of d g p ts) store₀ base budget store end rest (left d tried)
 
 abbrev pub invariant-loop-i : goal.invariant-loop-i
 invariant-loop-i l =

@@ -35,10 +35,10 @@ about k d g before p ts after c t place =
 calls : (k : goal.After-symbols) (d : Deck) (g : Goal) (before : List Literal) (p : ℕ) (ts : Terms) (after : List Literal)
     → let a = k.args in
     Tries a.clauses.now.deck.words.now a.work.now.cells.now a.attempt d g before p ts after
-    → Calls k.symbols.result.now a.work.now.cells.now a.attempt.call a.attempt.n d.symbols g before p ts after
+    → Calls k.symbols.result.now a.work.now.cells.now a.attempt.call a.attempt.offset d.symbols g before p ts after
 calls k d g before p ts after t =
     let a = k.args in
-    subst (λ ar. Calls ar a.work.now.cells.now a.attempt.call a.attempt.n d.symbols g before p ts after) (sym k.symbols.ensures) t.calls
+    subst (λ ar. Calls ar a.work.now.cells.now a.attempt.call a.attempt.offset d.symbols g before p ts after) (sym k.symbols.ensures) t.calls
 
 pub begins_otherwise-requires : goal.begins_otherwise-requires
 begins_otherwise-requires c =
@@ -51,16 +51,16 @@ begins_otherwise-requires c =
 failed : (k : goal.Then-begins_otherwise) (d : Deck) (g : Goal) (before : List Literal) (p : ℕ) (ts : Terms) (after : List Literal) (c : Clause)
     → let a = k.args in
     Tries a.clauses.now.deck.words.now a.work.now.cells.now a.attempt d g before p ts after → About k.cells-clause.result.now d.symbols p c
-    → unify ts (fresh a.attempt.n c.arguments) ≡ fails 1
+    → unify ts (fresh a.attempt.offset c.arguments) ≡ fails 1
 failed k d g before p ts after c t o =
-    k.begins_otherwise.ensures.fails k.if-begins_otherwise.true ts c k.args.attempt.n t.first (sym (head-count t.calls o)) o.cells
+    k.begins_otherwise.ensures.fails k.if-begins_otherwise.true ts c k.args.attempt.offset t.first (sym (head-count t.calls o)) o.cells
 
 pub returns-then-begins_otherwise-clause-attempt : goal.returns-then-begins_otherwise-clause-attempt
 returns-then-begins_otherwise-clause-attempt c =
     λ d g before p ts after c' t place.
     let o = about (goal.at.returns-then-begins_otherwise-clause-attempt c).After-cells-clause d g before p ts after c' t place in
     let child = c.args.work.now.draft.child in
-    failed-attempt c.args.attempt.n g.answers before ts after c' c.args.left child c.fails_at_once.result
+    failed-attempt c.args.attempt.offset g.answer_terms before ts after c' c.args.left child c.fails_at_once.result
     (failed (goal.at.returns-then-begins_otherwise-clause-attempt c).Then-begins_otherwise d g before p ts after c' t o) (c.fails_at_once.ensures child)
 
 pub resolve_clause-requires : goal.resolve_clause-requires

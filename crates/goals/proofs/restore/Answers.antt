@@ -17,4 +17,4 @@ returns c =
     let n = length a.cells.now in
     let fits : n ≡ a.held - 2 - (a.held - 2 - n) = omega arith in
     rw (c.mirror.ensures, ← fits, put_sets a.store.now (reverse a.cells.now) (a.held - 2 - n) n (omega arith) (length-reverse a.cells.now))
-    (two-more a.store.now a.cells.now (a.held - 2 - n) a.held n a.answers (n + 2) (omega arith) refl)
+    (two-more a.store.now a.cells.now (a.held - 2 - n) a.held n a.answer_cells (n + 2) (omega arith) refl)

@@ -255,8 +255,8 @@ negate-returns t c =
 read :
     (t : ℕ) (c : goal.take_step-After-select_literal-selected t) →
     let a = c.args in
-    Copied a.store.now a.held c.from-length.result c.from-answers.result (c.mirror.new.to ++ drop (c.from-length.result - 2) a.work.now.cells.now)
-read t c = copied c.requires.first.holding _ _ _ _ c.from-length.ensures c.from-answers.ensures c.args.work.now.room c.mirror.ensures
+    Copied a.store.now a.held c.from-length.result c.from-answer_cells.result (c.mirror.new.to ++ drop (c.from-length.result - 2) a.work.now.cells.now)
+read t c = copied c.requires.first.holding _ _ _ _ c.from-length.ensures c.from-answer_cells.ensures c.args.work.now.room c.mirror.ensures
 
 -- A literal is selected, whatever the goal.
 picked :
@@ -286,9 +286,9 @@ take_step-bounds-store-held-2 t c = omega (arith, first-room c.requires.first.ho
 pub take_step-overflow_sub-len : goal.take_step-overflow_sub-len
 take_step-overflow_sub-len t c = omega (arith, first-room c.requires.first.holding, c.from-length.ensures)
 
-pub take_step-returns-then-answers-len : goal.take_step-returns-then-answers-len
-take_step-returns-then-answers-len t c =
-    λ d g gs o h. (answers-only g (omega (arith, c.if-answers-len.true, c.from-length.ensures, c.from-answers.ensures, first-length h, first-answers h, first-room h)), refl)
+pub take_step-returns-then-answer_cells-len : goal.take_step-returns-then-answer_cells-len
+take_step-returns-then-answer_cells-len t c =
+    λ d g gs o h. (answers-only g (omega (arith, c.if-answer_cells-len.true, c.from-length.ensures, c.from-answer_cells.ensures, first-length h, first-answers h, first-room h)), refl)
 
 pub take_step-overflow_sub-end : goal.take_step-overflow_sub-end
 take_step-overflow_sub-end t c = omega (arith, first-room c.requires.first.holding)
@@ -313,12 +313,12 @@ take_step-mirror-requires t c =
 
 pub take_step-goal-requires : goal.take_step-goal-requires
 take_step-goal-requires t c =
-    omega (arith, (copied c.requires.first.holding _ _ _ _ c.from-length.ensures c.from-answers.ensures c.args.work.now.room c.mirror.ensures).long)
+    omega (arith, (copied c.requires.first.holding _ _ _ _ c.from-length.ensures c.from-answer_cells.ensures c.args.work.now.room c.mirror.ensures).long)
 
 pub take_step-select_literal-selected-requires : goal.take_step-select_literal-selected-requires
 take_step-select_literal-selected-requires t c =
     let f = c.requires.first in
-    let read = copied f.holding _ _ _ _ c.from-length.ensures c.from-answers.ensures c.args.work.now.room c.mirror.ensures in
+    let read = copied f.holding _ _ _ _ c.from-length.ensures c.from-answer_cells.ensures c.args.work.now.room c.mirror.ensures in
     record {
       symbols = f.deck.symbols;
       goal = f.first;
@@ -390,7 +390,7 @@ pub take_step-returns-in-Nothing : goal.take_step-returns-in-Nothing
 take_step-returns-in-Nothing t c =
     λ d g gs o h.
     rw c.pay_one.ensures (turned-floundered d c.args.below c.args.account c.requires.pays h c.args.store.now
-    (more-than-answers g (λ e. c.if-answers-len.false (omega (arith, c.from-length.ensures, c.from-answers.ensures, first-length h, first-answers h))))
+    (more-than-answers g (λ e. c.if-answer_cells-len.false (omega (arith, c.from-length.ensures, c.from-answer_cells.ensures, first-length h, first-answers h))))
     (is-nothing g (picked t (goal.at.take_step-returns-in-Nothing t c).After-select_literal-selected _ c.in-Nothing.is d g gs o h)) refl)
 
 pub take_step-returns-in-Negative : goal.take_step-returns-in-Negative

@@ -31,7 +31,7 @@ returns-then-words-from c = λ gs a e.
     let i = (goal.at.returns-then-words-from c).In-loop-i in
     let h = here i gs a e in
     let l = c.loop-i.invariant gs a e in
-    let other : goal_words h.goal ≡ sizes h.goal.answers + 2 → ⊥ = λ q. omega (arith, c.if-words-from.true, h.word, h.cells, q) in
+    let other : goal_words h.goal ≡ sizes h.goal.answer_terms + 2 → ⊥ = λ q. omega (arith, c.if-words-from.true, h.word, h.cells, q) in
     sym (l.left ∙ ap all_bare h.same ∙ bare-ends h.goal h.others (full-goal h.goal other))
 
 pub slice_bounds-rest-count : goal.slice_bounds-rest-count
@@ -45,7 +45,7 @@ loop-i-preserved c = λ gs a e.
     let i = (goal.at.loop-i-preserved c).In-loop-i in
     let h = here i gs a e in
     let l = c.loop-i.invariant gs a e in
-    let same : goal_words h.goal ≡ sizes h.goal.answers + 2 = omega (arith, h.word, h.cells, c.if-words-from.false) in
+    let same : goal_words h.goal ≡ sizes h.goal.answer_terms + 2 = omega (arith, h.word, h.cells, c.if-words-from.false) in
     let rest = c.loop-i.rest.now in
     let n = c.from-words.result in
     let word : n ≡ goal_words h.goal = omega (arith, h.word) in

@@ -54,7 +54,7 @@ entry-requires c =
     let r = c.requires in
     let i = (goal.at.entry-requires c).In-loop-i in
     let h = here i r.0 r.1 r.2 r.3 r.4 in
-    (r.0, h.goal.answers, r.2, (entry-here h (standing i r.0 r.1 r.2 r.3 r.4) (rw c.from.ensures at c.split_at.ensures.front)).1)
+    (r.0, h.goal.answer_terms, r.2, (entry-here h (standing i r.0 r.1 r.2 r.3 r.4) (rw c.from.ensures at c.split_at.ensures.front)).1)
 
 pub returns-in_err-entry : goal.returns-in_err-entry
 returns-in_err-entry c = λ d gs opens a e.
@@ -62,7 +62,7 @@ returns-in_err-entry c = λ d gs opens a e.
     let h = here i d gs opens a e in
     let l = c.loop-i.invariant.1 d gs opens a e in
     let x = (entry-here h (standing i d gs opens a e) (rw c.from.ensures at c.split_at.ensures.front)).1 in
-    let word = known-none (entry_word d.format c.args.place h.goal.answers) (c.in_err-entry.ensures d h.goal.answers opens x) in
+    let word = known-none (entry_word d.format c.args.place h.goal.answer_terms) (c.in_err-entry.ensures d h.goal.answer_terms opens x) in
     let z = to_z w64 c.loop-i.sum-bits in
     rw c.from_residual.ensures (summed-none _ (l.left ∙ ap (λ xs. add_to z (column_words d.format c.args.place xs)) h.same ∙ sum-none d.format c.args.place h.goal h.others word z))
 
@@ -93,7 +93,7 @@ loop-i-preserved c =
           let l = c.loop-i.invariant.1 d gs opens a e in
           let s = standing i d gs opens a e in
           let x = (entry-here h s (rw c.from.ensures at c.split_at.ensures.front)).1 in
-          let word = known-some (entry_word d.format c.args.place h.goal.answers) c.in_ok-entry.field-0 (c.in_ok-entry.ensures d h.goal.answers opens x) in
+          let word = known-some (entry_word d.format c.args.place h.goal.answer_terms) c.in_ok-entry.field-0 (c.in_ok-entry.ensures d h.goal.answer_terms opens x) in
           record {
             others = h.others;
             standing = rw (c.split_at.ensures.back, c.from.ensures) (column-after h s);

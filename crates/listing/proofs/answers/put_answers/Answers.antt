@@ -19,7 +19,7 @@ module _ (c : In-loop-i) (gs : List Goal) (a : AnswersAt c.args.symbols.now c.ar
 
   line :
       Left c.args.out.now (print_answers gs) c.loop-i.out
-      (print_answer here.goal.answers (10 ∷ []) ++ print_answers here.others)
+      (print_answer here.goal.answer_terms (10 ∷ []) ++ print_answers here.others)
   line = rw (ap print_answers here.same ∙ answers-parts here.goal here.others) at (c.loop-i.invariant gs a e).left
 
 pub bounds-list-0 : goal.bounds-list-0
@@ -43,7 +43,7 @@ put_answer-requires c =
     let i = (goal.at.put_answer-requires c).In-loop-i in
     let h = here i c.requires.0 c.requires.1 c.requires.2 in
     let r = row-here h (rw c.from.ensures at c.split_at.ensures.front) in
-    (h.goal.answers, r.1, r.2, left-room (print_answer h.goal.answers (10 ∷ [])) _ (line i c.requires.0 c.requires.1 c.requires.2) c.requires.3)
+    (h.goal.answer_terms, r.1, r.2, left-room (print_answer h.goal.answer_terms (10 ∷ [])) _ (line i c.requires.0 c.requires.1 c.requires.2) c.requires.3)
 
 pub loop-i-preserved : goal.loop-i-preserved
 loop-i-preserved c = λ gs a e.
@@ -54,7 +54,7 @@ loop-i-preserved c = λ gs a e.
       others = h.others;
       standing = rw (c.split_at.ensures.back, c.from.ensures) h.after;
       many = omega (arith, (c.loop-i.invariant gs a e).many, ap length h.same);
-      left = put_some (line i gs a e) (c.put_answer.ensures h.goal.answers r.1 r.2);
+      left = put_some (line i gs a e) (c.put_answer.ensures h.goal.answer_terms r.1 r.2);
     }
 
 pub returns : goal.returns

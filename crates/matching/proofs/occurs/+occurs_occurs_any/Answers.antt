@@ -6,11 +6,11 @@ use Rattle.matching.specs.Cells.{from}
 use Rattle.matching.specs.Bindings.{elims}
 use Rattle.matching.proofs.TableLaws.{same_refl, same-on}
 use Rattle.matching.proofs.SeenLaws.{first-inside, args-enough, below}
-use Rattle.matching.proofs.OccursLaws.{occurs-none, occurs-cell, occurs-args, args-smaller, any-first, first-smaller, any-others, others-smaller, occurs-by, stamp-fits, mark-index, marked-away, marked_more}
+use Rattle.matching.proofs.OccursLaws.{occurs-none, occurs-cell, occurs-args, args-smaller, any-first, first-smaller, any-others, others-smaller, occurs-by, stamp-fits, stamp-index, stamped-away, stamped_more}
 use Rattle.matching.proofs.occurs.+occurs_occurs_any.Goals as goal
 
 pub occurs-invariant_of-bound : goal.occurs-invariant_of-bound
-occurs-invariant_of-bound t c = record { good = c.requires.checking.state.good }
+occurs-invariant_of-bound t c = record { triangular = c.requires.checking.state.triangular }
 
 pub occurs-bounds-terms-at : goal.occurs-bounds-terms-at
 occurs-bounds-terms-at t c = c.resolve-at.ensures.final.inside
@@ -26,14 +26,14 @@ occurs-returns-then-c-ge-VARIABLE t c =
 pub occurs-overflow_add-stamp : goal.occurs-overflow_add-stamp
 occurs-overflow_add-stamp t c = omega (arith, stamp-fits c.requires.checking)
 
-pub occurs-marked-requires : goal.occurs-marked-requires
-occurs-marked-requires t c =
-    mark-index c.requires.checking c.requires.p_in_bounds
+pub occurs-is_stamped-requires : goal.occurs-is_stamped-requires
+occurs-is_stamped-requires t c =
+    stamp-index c.requires.checking c.requires.p_in_bounds
 
-pub occurs-returns-then-marked : goal.occurs-returns-then-marked
-occurs-returns-then-marked t c =
+pub occurs-returns-then-is_stamped : goal.occurs-returns-then-is_stamped
+occurs-returns-then-is_stamped t c =
     record {
-      occurs = marked-away c.requires.checking c.requires.p_in_bounds (c.marked.ensures c.if-marked.true);
+      occurs = stamped-away c.requires.checking c.requires.p_in_bounds (c.is_stamped.ensures c.if-is_stamped.true);
       checking_after = c.requires.checking;
       bindings_kept = same_refl c.args.table.now;
     }
@@ -44,7 +44,7 @@ occurs-arity-arity-requires t c =
 
 pub occurs-occurs_any-requires : goal.occurs-occurs_any-requires
 occurs-occurs_any-requires t c =
-    (below c.decreases (args-smaller c.requires.checking c.resolve-at.ensures c.arity-arity.ensures c.if-c-ge-VARIABLE.false), (c.requires.checking, args-enough c.requires.checking.state.good _ c.arity-arity.ensures c.resolve-at.ensures.final))
+    (below c.decreases (args-smaller c.requires.checking c.resolve-at.ensures c.arity-arity.ensures c.if-c-ge-VARIABLE.false), (c.requires.checking, args-enough c.requires.checking.state.triangular _ c.arity-arity.ensures c.resolve-at.ensures.final))
 
 pub occurs-returns-then-occurs_any : goal.occurs-returns-then-occurs_any
 occurs-returns-then-occurs_any t c =
@@ -54,10 +54,10 @@ occurs-returns-then-occurs_any t c =
       bindings_kept = c.occurs_any.ensures.bindings_kept;
     }
 
-pub occurs-mark-requires : goal.occurs-mark-requires
-occurs-mark-requires t c =
+pub occurs-set_stamp-requires : goal.occurs-set_stamp-requires
+occurs-set_stamp-requires t c =
     record {
-      variable_in_bounds = mark-index c.occurs_any.ensures.checking_after c.requires.p_in_bounds;
+      variable_in_bounds = stamp-index c.occurs_any.ensures.checking_after c.requires.p_in_bounds;
       stamp_bound = stamp-fits c.requires.checking;
     }
 
@@ -66,8 +66,8 @@ occurs-returns t c =
     let w = occurs-args c.requires.checking c.resolve-at.ensures c.arity-arity.ensures c.if-c-ge-VARIABLE.false (occurs-by c.occurs_any.ensures.occurs c.if-occurs_any.false) in
     record {
       occurs = w;
-      checking_after = marked_more c.occurs_any.ensures.checking_after c.requires.p_in_bounds c.resolve-at.ensures c.if-c-ge-VARIABLE.false (w.if-not refl) c.mark.ensures.table_after;
-      bindings_kept = same-on c.occurs_any.ensures.bindings_kept c.mark.ensures.bindings_kept;
+      checking_after = stamped_more c.occurs_any.ensures.checking_after c.requires.p_in_bounds c.resolve-at.ensures c.if-c-ge-VARIABLE.false (w.if-not refl) c.set_stamp.ensures.table_after;
+      bindings_kept = same-on c.occurs_any.ensures.bindings_kept c.set_stamp.ensures.bindings_kept;
     }
 
 pub occurs_any-returns-then-number-eq0 : goal.occurs_any-returns-then-number-eq0

@@ -5,12 +5,12 @@ use native.Mathlib.Omega.{arith}
 use Rattle.matching.specs.Cells.{from}
 use Rattle.matching.specs.Bindings.{elims}
 use Rattle.matching.proofs.SeenLaws.{Opened, opened, first-inside, args-enough, final-free, below}
-use Rattle.matching.proofs.RanLaws.{args-there, args-fewer, pair-differ, pair-right, pair_same, pair_left, ran-one, ran-none, ran-fails, ran_out, ran-args, none_left, first-fewer, rest-fewer, ran-rest, ran-stop}
+use Rattle.matching.proofs.OutcomeLaws.{args-there, args-fewer, pair-differ, pair-right, pair_same, pair_left, unifies-one, unifies-none, unifies-fails, unifies-out, unifies-args, none_left, first-fewer, rest-fewer, unifies-rest, unifies-stop}
 use Rattle.matching.proofs.unify.+pair_pairs.Goals as goal
 use Rattle.matching.proofs.unify.+pair_pairs.Goals.{pairs-After-resolve-b}
 
 pub pair-returns-in_default : goal.pair-returns-in_default
-pair-returns-in_default t c = ran_out c.requires (omega (arith, c.in_default.ensures))
+pair-returns-in_default t c = unifies-out c.requires (omega (arith, c.in_default.ensures))
 
 pub pair-bounds-terms-a : goal.pair-bounds-terms-a
 pair-bounds-terms-a t c = c.requires.left.inside
@@ -20,35 +20,35 @@ pair-bounds-terms-b t c = c.requires.right.inside
 
 pub pair-returns-then-c-d : goal.pair-returns-then-c-d
 pair-returns-then-c-d t c =
-    ran-none 1 c.in-Some.rest c.requires.state (omega (arith, c.in-Some.ensures)) (pair_same c.requires c.if-c-ge-VARIABLE.true c.if-c-d.true)
+    unifies-none 1 c.in-Some.rest c.requires.state (omega (arith, c.in-Some.ensures)) (pair_same c.requires c.if-c-ge-VARIABLE.true c.if-c-d.true)
 
 pub pair-eliminate-requires : goal.pair-eliminate-requires
 pair-eliminate-requires t c =
     record {
       state = c.requires.state;
-      free = final-free c.requires.state.good c.requires.left c.if-c-ge-VARIABLE.true;
+      free = final-free c.requires.state.triangular c.requires.left c.if-c-ge-VARIABLE.true;
       final_place = c.requires.right;
     }
 
 pub pair-returns-then-c-ge-VARIABLE : goal.pair-returns-then-c-ge-VARIABLE
 pair-returns-then-c-ge-VARIABLE t c =
-    ran-one c.eliminate.ensures (omega (arith, c.in-Some.ensures)) (pair_left c.requires c.if-c-ge-VARIABLE.true c.if-c-d.false)
+    unifies-one c.eliminate.ensures (omega (arith, c.in-Some.ensures)) (pair_left c.requires c.if-c-ge-VARIABLE.true c.if-c-d.false)
 
 pub pair-eliminate-requires-then-d-ge-VARIABLE : goal.pair-eliminate-requires-then-d-ge-VARIABLE
 pair-eliminate-requires-then-d-ge-VARIABLE t c =
     record {
       state = c.requires.state;
-      free = final-free c.requires.state.good c.requires.right c.if-d-ge-VARIABLE.true;
+      free = final-free c.requires.state.triangular c.requires.right c.if-d-ge-VARIABLE.true;
       final_place = c.requires.left;
     }
 
 pub pair-returns-then-d-ge-VARIABLE : goal.pair-returns-then-d-ge-VARIABLE
 pair-returns-then-d-ge-VARIABLE t c =
-    ran-one c.eliminate-then-d-ge-VARIABLE.ensures (omega (arith, c.in-Some.ensures)) (pair-right c.requires c.if-c-ge-VARIABLE.false c.if-d-ge-VARIABLE.true)
+    unifies-one c.eliminate-then-d-ge-VARIABLE.ensures (omega (arith, c.in-Some.ensures)) (pair-right c.requires c.if-c-ge-VARIABLE.false c.if-d-ge-VARIABLE.true)
 
 pub pair-returns-then-c-d-2 : goal.pair-returns-then-c-d-2
 pair-returns-then-c-d-2 t c =
-    ran-fails 1 c.in-Some.rest c.requires.state (omega (arith, c.in-Some.ensures)) (pair-differ c.requires c.if-c-ge-VARIABLE.false c.if-d-ge-VARIABLE.false c.if-c-d-2.true)
+    unifies-fails 1 c.in-Some.rest c.requires.state (omega (arith, c.in-Some.ensures)) (pair-differ c.requires c.if-c-ge-VARIABLE.false c.if-d-ge-VARIABLE.false c.if-c-d-2.true)
 
 pub pair-arity-arity-requires : goal.pair-arity-arity-requires
 pair-arity-arity-requires t c =
@@ -57,19 +57,19 @@ pair-arity-arity-requires t c =
 pub pair-pairs-requires : goal.pair-pairs-requires
 pair-pairs-requires t c =
     let a = c.arity-arity.ensures in
-    (below c.decreases (args-fewer c.requires _ a c.if-c-ge-VARIABLE.false c.if-d-ge-VARIABLE.false c.if-c-d-2.false), (c.requires.state, (args-enough c.requires.state.good _ a c.requires.left, args-there c.requires _ a c.if-c-d-2.false)))
+    (below c.decreases (args-fewer c.requires _ a c.if-c-ge-VARIABLE.false c.if-d-ge-VARIABLE.false c.if-c-d-2.false), (c.requires.state, (args-enough c.requires.state.triangular _ a c.requires.left, args-there c.requires _ a c.if-c-d-2.false)))
 
 pub pair-returns : goal.pair-returns
 pair-returns t c =
-    ran-args c.requires _ c.arity-arity.ensures c.if-c-ge-VARIABLE.false c.if-d-ge-VARIABLE.false c.if-c-d-2.false c.pairs.ensures (omega (arith, c.in-Some.ensures))
+    unifies-args c.requires _ c.arity-arity.ensures c.if-c-ge-VARIABLE.false c.if-d-ge-VARIABLE.false c.if-c-d-2.false c.pairs.ensures (omega (arith, c.in-Some.ensures))
 
 pub pairs-returns-then-number-eq0 : goal.pairs-returns-then-number-eq0
 pairs-returns-then-number-eq0 t c =
     let a = c.args in
-    ran-none 0 a.left c.requires.state (omega arith) (none_left (elims a.terms.now.symbols.now a.terms.now.cells.now a.table.now.bind a.table.now.trail a.table.now.bound) (from a.terms.now.symbols.now a.terms.now.cells.now a.p) (from a.terms.now.symbols.now a.terms.now.cells.now a.q) a.number c.if-number-eq0.true)
+    unifies-none 0 a.left c.requires.state (omega arith) (none_left (elims a.terms.now.symbols.now a.terms.now.cells.now a.table.now.bind a.table.now.trail a.table.now.bound) (from a.terms.now.symbols.now a.terms.now.cells.now a.p) (from a.terms.now.symbols.now a.terms.now.cells.now a.q) a.number c.if-number-eq0.true)
 
 pub pairs-invariant_of-bound : goal.pairs-invariant_of-bound
-pairs-invariant_of-bound t c = record { good = c.requires.state.good }
+pairs-invariant_of-bound t c = record { triangular = c.requires.state.triangular }
 
 pub pairs-resolve-a-requires : goal.pairs-resolve-a-requires
 pairs-resolve-a-requires t c = first-inside _ _ c.args.p _ c.if-number-eq0.false c.requires.left_bound
@@ -100,7 +100,7 @@ pairs-pair-tried-requires t c =
 pub pairs-returns-in_default : goal.pairs-returns-in_default
 pairs-returns-in_default t c =
     let k = (goal.at.pairs-returns-in_default t c).After-resolve-b in
-    ran-stop (left-opened t k) (right-opened t k) c.pair-tried.result c.in_default.not-Unified c.pair-tried.ensures
+    unifies-stop (left-opened t k) (right-opened t k) c.pair-tried.result c.in_default.not-Unified c.pair-tried.ensures
 
 pub pairs-after_first-p_next-requires : goal.pairs-after_first-p_next-requires
 pairs-after_first-p_next-requires t c =
@@ -119,4 +119,4 @@ pairs-pairs-requires t c =
 pub pairs-returns : goal.pairs-returns
 pairs-returns t c =
     let k = (goal.at.pairs-returns t c).After-resolve-b in
-    ran-rest (left-opened t k) (right-opened t k) c.in-Unified.ensures c.after_first-p_next.ensures c.after_first-q_next.ensures c.pairs.ensures
+    unifies-rest (left-opened t k) (right-opened t k) c.in-Unified.ensures c.after_first-p_next.ensures c.after_first-q_next.ensures c.pairs.ensures

@@ -1,6 +1,6 @@
 -- `unify_terms` meets its contract. Assumes nothing.
 use Rattle.matching.proofs.BindLaws.{ready-state}
-use Rattle.matching.proofs.RanLaws.{ran-ended}
+use Rattle.matching.proofs.OutcomeLaws.{unifies-ended}
 use Rattle.matching.proofs.unify.unify_terms.Goals as goal
 
 pub pairs-requires : goal.pairs-requires
@@ -12,4 +12,4 @@ pairs-requires c =
     }
 
 pub returns : goal.returns
-returns c = let a = c.args in ran-ended a.p a.q a.number c.pairs.ensures
+returns c = let a = c.args in unifies-ended a.p a.q a.number c.pairs.ensures

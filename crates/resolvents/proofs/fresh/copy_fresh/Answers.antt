@@ -5,7 +5,7 @@ use Rattle.resolvents.proofs.fresh.copy_fresh.Goals as goal
 use Rattle.resolvents.proofs.fresh.copy_fresh.Goals.{then-c-lt-VARIABLE, else-c-lt-VARIABLE}
 
 pub loop-i-init : goal.loop-i-init
-loop-i-init c = copying-none c.args.clause.now c.args.cells.now c.args.to c.args.n
+loop-i-init c = copying-none c.args.clause.now c.args.cells.now c.args.to c.args.offset
 
 pub loop-i-preserved : goal.loop-i-preserved
 loop-i-preserved c =

@@ -3,4 +3,4 @@ use Rattle.resolvents.proofs.VariableLaws.{Copying}
 use Rattle.resolvents.proofs.fresh.copy_fresh.Given as goal
 
 abbrev pub invariant-loop-i : goal.invariant-loop-i
-invariant-loop-i l = Copying l.clause l.initial.cells l.to l.n l.cells l.i
+invariant-loop-i l = Copying l.clause l.initial.cells l.to l.offset l.cells l.i

@@ -23,4 +23,4 @@ loop-cell-preserved c =
     ]
 
 pub returns : goal.returns
-returns c = λ ar answers S g h. topped-all c.loop-cell.invariant (omega arith) ∙ goal-topped h
+returns c = λ ar answer_cells S g h. topped-all c.loop-cell.invariant (omega arith) ∙ goal-topped h

@@ -13,7 +13,7 @@ unify_terms-requires-clause-ready c =
     rows-ready c.requires.together sized.0 sized.1 sized.2
 
 pub invariant_of-bound : goal.invariant_of-bound
-invariant_of-bound c = record { good = c.in-Unified.ensures.good }
+invariant_of-bound c = record { triangular = c.in-Unified.ensures.triangular }
 
 pub returns-clause-attempted_by : goal.returns-clause-attempted_by
 returns-clause-attempted_by c =

@@ -18,8 +18,8 @@ pub arity_of-number-requires : goal.arity_of-number-requires
 arity_of-number-requires c =
     rw c.from.ensures (arity-known c.requires.calls)
 
-pub overflow_cast-n : goal.overflow_cast-n
-overflow_cast-n c =
+pub overflow_cast-offset : goal.overflow_cast-offset
+overflow_cast-offset c =
     omega (arith, few-variables c.requires.calls)
 
 pub copy_fresh-requires : goal.copy_fresh-requires

@@ -8,7 +8,7 @@ use Rattle.resolvents.proofs.PassedLaws.{Passed}
 use Rattle.resolvents.proofs.select.select_literal.Given as goal
 
 abbrev pub invariant-loop-at : goal.invariant-loop-at
-invariant-loop-at l = (S : List Symbol) (g : Goal) → GoalCells l.symbols l.cells l.answers S g → Passed l.symbols l.cells S g l.at
+invariant-loop-at l = (S : List Symbol) (g : Goal) → GoalCells l.symbols l.cells l.answer_cells S g → Passed l.symbols l.cells S g l.at
 
 abbrev pub decreases-loop-at : goal.decreases-loop-at
 decreases-loop-at l = length l.cells - l.at

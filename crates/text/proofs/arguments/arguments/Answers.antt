@@ -1,6 +1,6 @@
 -- The invariant: the arguments are counted as far as the walk has come.
 use Rattle.std.proofs.Common.{◌∙◌, ap, subst}
-use Rattle.text.specs.Tokens.{Ended}
+use Rattle.text.specs.Tokens.{TextEnds}
 use Rattle.text.proofs.CountLaws.{no_arguments, first-argument, count-ended}
 use Rattle.text.proofs.arguments.arguments.Goals as goal
 
@@ -18,5 +18,5 @@ loop-t-init c =
 pub returns : goal.returns
 returns c =
     let l = c.loop-t in
-    let z = subst (λ x. Ended x l.t-iterator.at) l.invariant.same c.in-None.ensures.steps.found in
+    let z = subst (λ x. TextEnds x l.t-iterator.at) l.invariant.same c.in-None.ensures.steps.found in
     count-ended c.args.text.now c.args.at l.t-iterator.at l.count z.token z.next l.invariant.counted z.kind

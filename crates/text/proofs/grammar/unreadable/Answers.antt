@@ -5,8 +5,8 @@ use Rattle.text_rules.specs.TextGrammar.{follows, next}
 use Rattle.text.specs.declared.tokens.Kind.TheVariants.{Ending}
 use Rattle.text.specs.declared.tokens.Token.{Token}
 use Rattle.text.specs.Kinds.{kind_of}
-use Rattle.text.specs.Scan.{Next}
-use Rattle.text.specs.Tokens.{Ended}
+use Rattle.text.specs.Scan.{NextToken}
+use Rattle.text.specs.Tokens.{TextEnds}
 use Rattle.text.specs.Steps.{state_of, step_of}
 use Rattle.text.proofs.GrammarLaws.{no-key}
 use Rattle.text.proofs.ReadLaws.{token_of, read_none, read-on, read_all, read-stops}
@@ -14,8 +14,8 @@ use Rattle.text.proofs.grammar.unreadable.Goals as goal
 use Rattle.text.proofs.grammar.unreadable.Goals.{In-Some, In-None, After-follow, After-follow-2}
 
 -- A token of the text, and the step of the grammar over it.
-scanned : (k : In-Some) → Next k.args.text.now k.loop-t.t-iterator.at k.in-Some.t
-scanned k = subst (λ x. Next x k.loop-t.t-iterator.at k.in-Some.t) k.loop-t.invariant.same k.in-Some.ensures.steps.found.next
+scanned : (k : In-Some) → NextToken k.args.text.now k.loop-t.t-iterator.at k.in-Some.t
+scanned k = subst (λ x. NextToken x k.loop-t.t-iterator.at k.in-Some.t) k.loop-t.invariant.same k.in-Some.ensures.steps.found.next
 
 step : (k : After-follow) → next (follows (state_of k.loop-t.s)) (token_of k.args.text.now k.in-Some.t) ≡ step_of k.follow.result
 step k =
@@ -23,8 +23,8 @@ step k =
     k.follow.ensures u refl (k.key_of-key.ensures u refl refl)
 
 -- The end of the text, and the step over it.
-ended : (k : In-None) → Ended k.args.text.now k.loop-t.t-iterator.at
-ended k = subst (λ x. Ended x k.loop-t.t-iterator.at) k.loop-t.invariant.same k.in-None.ensures.steps.found
+ended : (k : In-None) → TextEnds k.args.text.now k.loop-t.t-iterator.at
+ended k = subst (λ x. TextEnds x k.loop-t.t-iterator.at) k.loop-t.invariant.same k.in-None.ensures.steps.found
 
 last-step : (k : After-follow-2) (r : Token) → r.kind ≡ Ending → next (follows (state_of k.loop-t.s)) (token_of k.args.text.now r) ≡ step_of k.follow-2.result
 last-step k r e = let u = token_of k.args.text.now r in k.follow-2.ensures u (ap kind_of e) (no-key r.kind u (λ q. cc) refl)

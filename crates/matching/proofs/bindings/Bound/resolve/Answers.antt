@@ -10,7 +10,7 @@ pub returns-in_default : goal.returns-in_default
 returns-in_default c = resolved-free c.loop-p.invariant c.from.ensures c.in_default.not-Some
 
 pub loop-p-smaller : goal.loop-p-smaller
-loop-p-smaller c = rw c.from-at.ensures (resolving-less c.args.self.now.good c.loop-p.invariant (bound-to c.if-c-lt-VARIABLE.false c.from.ensures c.in-Some.is))
+loop-p-smaller c = rw c.from-at.ensures (resolving-less c.args.self.now.triangular c.loop-p.invariant (bound-to c.if-c-lt-VARIABLE.false c.from.ensures c.in-Some.is))
 
 pub loop-p-preserved : goal.loop-p-preserved
-loop-p-preserved c = rw c.from-at.ensures (resolving-more c.args.self.now.good c.loop-p.invariant (bound-to c.if-c-lt-VARIABLE.false c.from.ensures c.in-Some.is))
+loop-p-preserved c = rw c.from-at.ensures (resolving-more c.args.self.now.triangular c.loop-p.invariant (bound-to c.if-c-lt-VARIABLE.false c.from.ensures c.in-Some.is))

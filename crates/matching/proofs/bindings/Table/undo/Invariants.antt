@@ -4,7 +4,7 @@ use lib.ListN.{length}
 use Rattle.matching.specs.Bindings.{Trailed}
 use Rattle.matching.proofs.bindings.Table.undo.Given as goal
 
--- the bindings and the marks, while the trail is lent
+-- the bindings and the stamps, while the trail is lent
 abbrev pub invariant-loop-v : goal.invariant-loop-v
 invariant-loop-v l =
     let left = l.v-iterator.iter.rest.now in

@@ -25,7 +25,7 @@ put_terms-arity-todo-requires t c = omega (arith, c.loop-i-test.true, c.requires
 
 pub put_terms-overflow_add-todo : goal.put_terms-overflow_add-todo
 put_terms-overflow_add-todo t c =
-    omega (arith, c.loop-i.invariant.0.few, c.arity-todo.ensures, args-small c.args.bound.now.terms.symbols.now (get_or c.args.bound.now.terms.cells.now c.loop-i.i 0), c.loop-i-test.true, c.requires.inside, c.args.bound.now.good.formed.short)
+    omega (arith, c.loop-i.invariant.0.few, c.arity-todo.ensures, args-small c.args.bound.now.terms.symbols.now (get_or c.args.bound.now.terms.cells.now c.loop-i.i 0), c.loop-i-test.true, c.requires.inside, c.args.bound.now.triangular.formed.short)
 
 pub put_terms-put_value-requires : goal.put_terms-put_value-requires
 put_terms-put_value-requires t c =
@@ -60,13 +60,13 @@ put_value-bounds-bound-q t c = c.resolve-q.ensures.final.inside
 pub put_value-put_variable-requires : goal.put_value-put_variable-requires
 put_value-put_variable-requires t c =
     record {
-      v_in_bounds = omega (arith, c.args.bound.now.good.named _ c.resolve-q.ensures.final.inside c.if-c-ge-VARIABLE.true, c.args.bound.now.table.now.sized.0);
+      v_in_bounds = omega (arith, c.args.bound.now.triangular.named _ c.resolve-q.ensures.final.inside c.if-c-ge-VARIABLE.true, c.args.bound.now.table.now.sized.0);
       to_in_bounds = omega (arith, c.requires.to_bound);
     }
 
 pub put_value-returns-then-c-ge-VARIABLE : goal.put_value-returns-then-c-ge-VARIABLE
 put_value-returns-then-c-ge-VARIABLE t c =
-    bound-variable c.args.bound.now.good c.resolve-q.ensures.final c.resolve-q.ensures.same c.if-c-ge-VARIABLE.true c.put_variable.ensures
+    bound-variable c.args.bound.now.triangular c.resolve-q.ensures.final c.resolve-q.ensures.same c.if-c-ge-VARIABLE.true c.put_variable.ensures
 
 pub put_value-arity-arity-requires : goal.put_value-arity-arity-requires
 put_value-arity-arity-requires t c = c.resolve-q.ensures.final.inside
@@ -74,10 +74,10 @@ put_value-arity-arity-requires t c = c.resolve-q.ensures.final.inside
 pub put_value-put_terms-requires : goal.put_value-put_terms-requires
 put_value-put_terms-requires t c =
     let a = c.arity-arity.ensures in (
-      omega (arith, bound-less c.args.bound.now.good c.resolve-q.ensures.final c.resolve-q.ensures.same (omega (arith, c.if-c-ge-VARIABLE.false)) _ a {ts = cons _ nil} {us = nil} refl, c.decreases),
+      omega (arith, bound-less c.args.bound.now.triangular c.resolve-q.ensures.final c.resolve-q.ensures.same (omega (arith, c.if-c-ge-VARIABLE.false)) _ a {ts = cons _ nil} {us = nil} refl, c.decreases),
       (omega arith, (omega (arith, a, args-small c.args.bound.now.terms.symbols.now (get_or c.args.bound.now.terms.cells.now c.resolve-q.result 0)), omega (arith, c.requires.to_bound))),
     )
 
 pub put_value-returns : goal.put_value-returns
 put_value-returns t c =
-    bound-functor c.args.bound.now.good c.resolve-q.ensures.final c.resolve-q.ensures.same (omega (arith, c.if-c-ge-VARIABLE.false)) _ c.arity-arity.ensures c.put_terms.ensures
+    bound-functor c.args.bound.now.triangular c.resolve-q.ensures.final c.resolve-q.ensures.same (omega (arith, c.if-c-ge-VARIABLE.false)) _ c.arity-arity.ensures c.put_terms.ensures

@@ -7,7 +7,7 @@ pub put_terms-requires : goal.put_terms-requires
 put_terms-requires c =
     record {
       inside = c.requires.inside;
-      number_bound = (omega (arith, c.requires.inside, c.args.bound.now.good.formed.short), c.requires.p_le_end.1);
+      number_bound = (omega (arith, c.requires.inside, c.args.bound.now.triangular.formed.short), c.requires.p_le_end.1);
     }
 
 pub returns : goal.returns

@@ -2,7 +2,7 @@
 use Rattle.std.proofs.Common.{ap, arith}
 use Rattle.std.proofs.Common.{◌%◌}
 use Rattle.deck.specs.Kinds.{symbols_of}
-use Rattle.rights.proofs.GoalLaws.{Next, left-all, left-next, left-none}
+use Rattle.rights.proofs.GoalLaws.{NextGoal, left-all, left-next, left-none}
 use Rattle.rights.proofs.reached.Reached.add_goals.Goals as goal
 use Rattle.rights.proofs.reached.Reached.add_goals.Goals.{After-from}
 
@@ -11,7 +11,7 @@ loop-at-init c = record { inside = omega arith; left = λ ms a. left-all (symbol
 
 -- The goal at the place, of those that the words are known to be.
 next : (k : goal.After-from)
-    → Next (symbols_of k.args.symbols.now) k.args.goals.now k.requires.goals.goals k.args.self.now.list.items k.loop-at.self.list.items k.loop-at.at (k.from.result % 4096)
+    → NextGoal (symbols_of k.args.symbols.now) k.args.goals.now k.requires.goals.goals k.args.self.now.list.items k.loop-at.self.list.items k.loop-at.at (k.from.result % 4096)
 next k =
     left-next (symbols_of k.args.symbols.now) k.args.goals.now k.requires.goals.goals k.args.self.now.list.items k.loop-at.self.list.items k.loop-at.at
     (k.loop-at.invariant.left k.requires.goals.goals k.requires.goals.are) k.loop-at-test.true (k.from.result % 4096) (ap (λ x. x % 4096) k.from.ensures)

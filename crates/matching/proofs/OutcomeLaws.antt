@@ -11,9 +11,9 @@ use Rattle.rules.specs.Unification.{Substitution, done, bind, applys, Unificatio
 use Rattle.rules.proofs.TermLaws.{join, ite-yes, ite-no, occ-other, join-nil, applys-count, applys-nil, applys-join, substitutions-done, substitutions-assoc}
 use Rattle.rules.proofs.UnifyLaws.{Found, unify-found, unify-none, unify-same, unify-var, unify-left, unify-left-fails, unify-right, unify-right-fails, unify-args, unify-differ, after, then, unify-join, taken-tick, taken-cons}
 use Rattle.matching.specs.Taking.{take_t}
-use Rattle.matching.specs.Cells.{args_of, from, others, Next}
+use Rattle.matching.specs.Cells.{args_of, from, others, RestAt}
 use Rattle.matching.specs.Bindings.{Places, elims_after, elims, value, alone, seen, State, Paired}
-use Rattle.matching.specs.Outcomes.{eliminated, Tells, Ran, Is, Ended}
+use Rattle.matching.specs.Outcomes.{eliminated, OutcomeFrom, UnifiesFrom, OutcomeOf, Unifies}
 use Rattle.matching.specs.declared.unify.Outcome.{Outcome}
 use Rattle.matching.specs.declared.unify.Outcome.TheVariants.{Unified, Failed, Broken}
 use Rattle.matching.proofs.TakeLaws.{count-take}
@@ -54,11 +54,11 @@ alone-right f y us = cases (ℕ_discrete (occs y us) 0)
 abbrev one : Term → Term → Unification
 one t u = unify (cons t nil) (cons u nil)
 
-module _ {ar cells : List ℕ} {bs : Places} {trail marks : List ℕ} {n a b : ℕ} (u : Paired ar cells bs trail marks n a b) where
+module _ {ar cells : List ℕ} {bs : Places} {trail stamps : List ℕ} {n a b : ℕ} (u : Paired ar cells bs trail stamps n a b) where
   pub pair-args : (k : ℕ) → k ≡ args_of ar (get_or cells a 0) → get_or cells a 0 < 32768 → get_or cells b 0 < 32768 → get_or cells a 0 ≡ get_or cells b 0 → unify (alone ar cells bs trail n a) (alone ar cells bs trail n b) ≡ tick (unify (seen ar cells bs trail n (a + 1) k) (seen ar cells bs trail n (b + 1) k))
   pair-args k e la lb q =
-      ap₂ one (open-functor u.state.good k e u.left la) (open-functor u.state.good k e' u.right lb)
-      ∙ unify-args nil nil (get_or cells a 0) (get_or cells b 0) us vs q (both (from ar cells (a + 1)) (args-enough u.state.good k e u.left) ∙ sym (both (from ar cells (b + 1)) (args-enough u.state.good k e' u.right)))
+      ap₂ one (open-functor u.state.triangular k e u.left la) (open-functor u.state.triangular k e' u.right lb)
+      ∙ unify-args nil nil (get_or cells a 0) (get_or cells b 0) us vs q (both (from ar cells (a + 1)) (args-enough u.state.triangular k e u.left) ∙ sym (both (from ar cells (b + 1)) (args-enough u.state.triangular k e' u.right)))
       ∙ ap tick (ap₂ unify (join-nil us) (join-nil vs))
     where
       us : Terms
@@ -74,23 +74,23 @@ module _ {ar cells : List ℕ} {bs : Places} {trail marks : List ℕ} {n a b : �
       both ts h = applys-count (elims ar cells bs trail n) (take_t k ts) ∙ count-take k ts h
 
   pub args-there : (k : ℕ) → k ≡ args_of ar (get_or cells a 0) → get_or cells a 0 ≡ get_or cells b 0 → k ≤ count (from ar cells (b + 1))
-  args-there k e q = args-enough u.state.good k (e ∙ ap (args_of ar) q) u.right
+  args-there k e q = args-enough u.state.triangular k (e ∙ ap (args_of ar) q) u.right
 
   pub args-fewer : (k : ℕ) → k ≡ args_of ar (get_or cells a 0) → get_or cells a 0 < 32768 → get_or cells b 0 < 32768 → get_or cells a 0 ≡ get_or cells b 0 → 2 * equations (unify (seen ar cells bs trail n (a + 1) k) (seen ar cells bs trail n (b + 1) k)) + 1 < 2 * equations (unify (alone ar cells bs trail n a) (alone ar cells bs trail n b))
   args-fewer k e la lb q =
       omega (arith, ap equations (pair-args k e la lb q), taken-tick (unify (seen ar cells bs trail n (a + 1) k) (seen ar cells bs trail n (b + 1) k)) (unify-found (seen ar cells bs trail n (a + 1) k) (seen ar cells bs trail n (b + 1) k)))
 
   pub pair-differ : get_or cells a 0 < 32768 → get_or cells b 0 < 32768 → (get_or cells a 0 ≡ get_or cells b 0 → ⊥) → unify (alone ar cells bs trail n a) (alone ar cells bs trail n b) ≡ fails 1
-  pair-differ la lb q = ap₂ one (open-functor u.state.good _ refl u.left la) (open-functor u.state.good _ refl u.right lb) ∙ unify-differ nil nil (get_or cells a 0) (get_or cells b 0) _ _ q
+  pair-differ la lb q = ap₂ one (open-functor u.state.triangular _ refl u.left la) (open-functor u.state.triangular _ refl u.right lb) ∙ unify-differ nil nil (get_or cells a 0) (get_or cells b 0) _ _ q
 
   pub pair-right : get_or cells a 0 < 32768 → 32768 ≤ get_or cells b 0 → unify (alone ar cells bs trail n a) (alone ar cells bs trail n b) ≡ eliminated (get_or cells b 0 - 32768) (value ar cells bs trail n a)
   pair-right la lb =
-      let t = open-functor u.state.good _ refl u.left la in
-      ap₂ one t (open-var u.state.good u.right lb) ∙ alone-right (get_or cells a 0) (get_or cells b 0 - 32768) _ ∙ ap (eliminated (get_or cells b 0 - 32768)) (sym t)
+      let t = open-functor u.state.triangular _ refl u.left la in
+      ap₂ one t (open-var u.state.triangular u.right lb) ∙ alone-right (get_or cells a 0) (get_or cells b 0 - 32768) _ ∙ ap (eliminated (get_or cells b 0 - 32768)) (sym t)
 
   pub pair_same : 32768 ≤ get_or cells a 0 → get_or cells a 0 ≡ get_or cells b 0 → unify (alone ar cells bs trail n a) (alone ar cells bs trail n b) ≡ solved 1 done
   pair_same la q =
-      ap₂ one (open-var u.state.good u.left la) (open-var u.state.good u.right (omega arith))
+      ap₂ one (open-var u.state.triangular u.left la) (open-var u.state.triangular u.right (omega arith))
       ∙ unify-same nil nil (get_or cells a 0 - 32768) (get_or cells b 0 - 32768) (ap (λ i. i - 32768) q)
       ∙ ap tick unify-none
 
@@ -99,45 +99,45 @@ module _ {ar cells : List ℕ} {bs : Places} {trail marks : List ℕ} {n a b : �
     where
       cases : Dec (get_or cells b 0 < 32768) → unify (alone ar cells bs trail n a) (alone ar cells bs trail n b) ≡ eliminated (get_or cells a 0 - 32768) (value ar cells bs trail n b)
       cases (yes lb) =
-          let t = open-functor u.state.good _ refl u.right lb in
-          ap₂ one (open-var u.state.good u.left la) t ∙ alone-left (get_or cells a 0 - 32768) (get_or cells b 0) _ ∙ ap (eliminated (get_or cells a 0 - 32768)) (sym t)
+          let t = open-functor u.state.triangular _ refl u.right lb in
+          ap₂ one (open-var u.state.triangular u.left la) t ∙ alone-left (get_or cells a 0 - 32768) (get_or cells b 0) _ ∙ ap (eliminated (get_or cells a 0 - 32768)) (sym t)
       cases (no nb) =
           let lb : 32768 ≤ get_or cells b 0 = omega arith in
-          let t = open-var u.state.good u.right lb in
-          ap₂ one (open-var u.state.good u.left la) t ∙ alone-var (get_or cells a 0 - 32768) (get_or cells b 0 - 32768) (λ z. q (omega arith)) ∙ ap (eliminated (get_or cells a 0 - 32768)) (sym t)
+          let t = open-var u.state.triangular u.right lb in
+          ap₂ one (open-var u.state.triangular u.left la) t ∙ alone-var (get_or cells a 0 - 32768) (get_or cells b 0 - 32768) (λ z. q (omega arith)) ∙ ap (eliminated (get_or cells a 0 - 32768)) (sym t)
 
 -- 2. What it leaves.
 
-tells-tick : (o : Unification) → Found o → (rest left : ℕ) (before now' : Substitution) (r : Outcome) → Tells o rest before now' r → suc rest ≡ left → Tells (tick o) left before now' r
+tells-tick : (o : Unification) → Found o → (rest left : ℕ) (before now' : Substitution) (r : Outcome) → OutcomeFrom o rest before now' r → suc rest ≡ left → OutcomeFrom (tick o) left before now' r
 tells-tick o f rest left before now' (Unified l) w z = (suc w.0, w.1, ap tick w.2, w.3, omega (arith, w.4))
 tells-tick o f rest left before now' (Failed l) w z = (suc w.0, ap tick w.1, omega (arith, w.2))
 tells-tick o f rest left before now' Broken w z = omega (arith, w, taken-tick o f)
 
 module _ {ar cells : List ℕ} {bs : Places} {trail : List ℕ} {n left : ℕ} where
-  pub ran-by : {o o' : Unification} {bs' : Places} {trail' marks' : List ℕ} {n' : ℕ} {r : Outcome} → Ran ar cells bs trail n o left bs' trail' marks' n' r → o' ≡ o → Ran ar cells bs trail n o' left bs' trail' marks' n' r
-  ran-by {bs' = bs'} {trail'} {marks'} {n'} {r} w e = subst (λ x. Ran ar cells bs trail n x left bs' trail' marks' n' r) (sym e) w
+  pub unifies-by : {o o' : Unification} {bs' : Places} {trail' stamps' : List ℕ} {n' : ℕ} {r : Outcome} → UnifiesFrom ar cells bs trail n o left bs' trail' stamps' n' r → o' ≡ o → UnifiesFrom ar cells bs trail n o' left bs' trail' stamps' n' r
+  unifies-by {bs' = bs'} {trail'} {stamps'} {n'} {r} w e = subst (λ x. UnifiesFrom ar cells bs trail n x left bs' trail' stamps' n' r) (sym e) w
 
   -- one equation and none after it
-  pub ran-one : {rest : ℕ} {o o' : Unification} {bs' : Places} {trail' marks' : List ℕ} {n' : ℕ} {r : Outcome} → Ran ar cells bs trail n o (suc rest) bs' trail' marks' n' r → suc rest ≡ left → o' ≡ o → Ran ar cells bs trail n o' left bs' trail' marks' n' r
-  ran-one {o = o} {bs' = bs'} {trail'} {marks'} {n'} {r} w z e = ran-by (subst (λ x. Ran ar cells bs trail n o x bs' trail' marks' n' r) z w) e
+  pub unifies-one : {rest : ℕ} {o o' : Unification} {bs' : Places} {trail' stamps' : List ℕ} {n' : ℕ} {r : Outcome} → UnifiesFrom ar cells bs trail n o (suc rest) bs' trail' stamps' n' r → suc rest ≡ left → o' ≡ o → UnifiesFrom ar cells bs trail n o' left bs' trail' stamps' n' r
+  unifies-one {o = o} {bs' = bs'} {trail'} {stamps'} {n'} {r} w z e = unifies-by (subst (λ x. UnifiesFrom ar cells bs trail n o x bs' trail' stamps' n' r) z w) e
 
-  pub ran-tick : (rest : ℕ) (ts us : Terms) {o' : Unification} {bs' : Places} {trail' marks' : List ℕ} {n' : ℕ} {r : Outcome} → Ran ar cells bs trail n (unify ts us) rest bs' trail' marks' n' r → suc rest ≡ left → o' ≡ tick (unify ts us) → Ran ar cells bs trail n o' left bs' trail' marks' n' r
-  ran-tick rest ts us {bs' = bs'} {trail'} {n' = n'} {r = r} w z e =
-      ran-by (record { state = w.state; tells = tells-tick (unify ts us) (unify-found ts us) rest left (elims ar cells bs trail n) (elims ar cells bs' trail' n') r w.tells z }) e
+  pub unifies-tick : (rest : ℕ) (ts us : Terms) {o' : Unification} {bs' : Places} {trail' stamps' : List ℕ} {n' : ℕ} {r : Outcome} → UnifiesFrom ar cells bs trail n (unify ts us) rest bs' trail' stamps' n' r → suc rest ≡ left → o' ≡ tick (unify ts us) → UnifiesFrom ar cells bs trail n o' left bs' trail' stamps' n' r
+  unifies-tick rest ts us {bs' = bs'} {trail'} {n' = n'} {r = r} w z e =
+      unifies-by (record { state = w.state; tells = tells-tick (unify ts us) (unify-found ts us) rest left (elims ar cells bs trail n) (elims ar cells bs' trail' n') r w.tells z }) e
 
-  pub ran-none : {marks : List ℕ} {o : Unification} (k l : ℕ) → State ar cells bs trail marks n n → k + l ≡ left → o ≡ solved k done → Ran ar cells bs trail n o left bs trail marks n (Unified l)
-  ran-none k l s q e = record { state = s; tells = (k, done, e, sym (substitutions-done (elims ar cells bs trail n)), q) }
+  pub unifies-none : {stamps : List ℕ} {o : Unification} (k l : ℕ) → State ar cells bs trail stamps n n → k + l ≡ left → o ≡ solved k done → UnifiesFrom ar cells bs trail n o left bs trail stamps n (Unified l)
+  unifies-none k l s q e = record { state = s; tells = (k, done, e, sym (substitutions-done (elims ar cells bs trail n)), q) }
 
-  pub ran-fails : {marks : List ℕ} {o : Unification} (k l : ℕ) → State ar cells bs trail marks n n → k + l ≡ left → o ≡ fails k → Ran ar cells bs trail n o left bs trail marks n (Failed l)
-  ran-fails k l s q e = record { state = record { good = s.good; wide = s.wide; low = λ w. omega (arith, s.low w); bound = s.bound }; tells = (k, e, q) }
+  pub unifies-fails : {stamps : List ℕ} {o : Unification} (k l : ℕ) → State ar cells bs trail stamps n n → k + l ≡ left → o ≡ fails k → UnifiesFrom ar cells bs trail n o left bs trail stamps n (Failed l)
+  unifies-fails k l s q e = record { state = record { triangular = s.triangular; wide = s.wide; low = λ w. omega (arith, s.low w); bound = s.bound }; tells = (k, e, q) }
 
-module _ {ar cells : List ℕ} {bs : Places} {trail marks : List ℕ} {n a b left : ℕ} (u : Paired ar cells bs trail marks n a b) where
+module _ {ar cells : List ℕ} {bs : Places} {trail stamps : List ℕ} {n a b left : ℕ} (u : Paired ar cells bs trail stamps n a b) where
   -- an equation that is not taken
-  pub ran_out : left ≡ 0 → Ran ar cells bs trail n (unify (alone ar cells bs trail n a) (alone ar cells bs trail n b)) left bs trail marks n Broken
-  ran_out z = record { state = u.state; tells = omega (arith, taken-cons (value ar cells bs trail n a) (value ar cells bs trail n b) nil nil) }
+  pub unifies-out : left ≡ 0 → UnifiesFrom ar cells bs trail n (unify (alone ar cells bs trail n a) (alone ar cells bs trail n b)) left bs trail stamps n Broken
+  unifies-out z = record { state = u.state; tells = omega (arith, taken-cons (value ar cells bs trail n a) (value ar cells bs trail n b) nil nil) }
 
-  pub ran-args : (k : ℕ) → k ≡ args_of ar (get_or cells a 0) → get_or cells a 0 < 32768 → get_or cells b 0 < 32768 → get_or cells a 0 ≡ get_or cells b 0 → {rest : ℕ} {bs' : Places} {trail' marks' : List ℕ} {n' : ℕ} {r : Outcome} → Ran ar cells bs trail n (unify (seen ar cells bs trail n (a + 1) k) (seen ar cells bs trail n (b + 1) k)) rest bs' trail' marks' n' r → suc rest ≡ left → Ran ar cells bs trail n (unify (alone ar cells bs trail n a) (alone ar cells bs trail n b)) left bs' trail' marks' n' r
-  ran-args k e la lb q {rest} w z = ran-tick rest (seen ar cells bs trail n (a + 1) k) (seen ar cells bs trail n (b + 1) k) w z (pair-args u k e la lb q)
+  pub unifies-args : (k : ℕ) → k ≡ args_of ar (get_or cells a 0) → get_or cells a 0 < 32768 → get_or cells b 0 < 32768 → get_or cells a 0 ≡ get_or cells b 0 → {rest : ℕ} {bs' : Places} {trail' stamps' : List ℕ} {n' : ℕ} {r : Outcome} → UnifiesFrom ar cells bs trail n (unify (seen ar cells bs trail n (a + 1) k) (seen ar cells bs trail n (b + 1) k)) rest bs' trail' stamps' n' r → suc rest ≡ left → UnifiesFrom ar cells bs trail n (unify (alone ar cells bs trail n a) (alone ar cells bs trail n b)) left bs' trail' stamps' n' r
+  unifies-args k e la lb q {rest} w z = unifies-tick rest (seen ar cells bs trail n (a + 1) k) (seen ar cells bs trail n (b + 1) k) w z (pair-args u k e la lb q)
 
 -- no equation
 pub none_left : (es : Substitution) (ts us : Terms) (k : ℕ) → k ≡ 0 → unify (applys es (take_t k ts)) (applys es (take_t k us)) ≡ solved 0 done
@@ -156,7 +156,7 @@ taken_then (fails k) l r f = omega arith
 taken_then spent l r f = absurd f
 taken_then (solved k es) l r f = omega (arith, taken-after k es (unify (applys es l) (applys es r)) (unify-found (applys es l) (applys es r)))
 
-tells-after : (k : ℕ) (es : Substitution) (o : Unification) → Found o → (left l : ℕ) → k + l ≡ left → (before mid end : Substitution) (r : Outcome) → mid ≡ join before es → Tells o l mid end r → Tells (after k es o) left before end r
+tells-after : (k : ℕ) (es : Substitution) (o : Unification) → Found o → (left l : ℕ) → k + l ≡ left → (before mid end : Substitution) (r : Outcome) → mid ≡ join before es → OutcomeFrom o l mid end r → OutcomeFrom (after k es o) left before end r
 tells-after k es o f left l q before mid end (Unified d) e w = (k + w.0, join es w.1, ap (after k es) w.2, w.3 ∙ ap (λ x. join x w.1) e ∙ substitutions-assoc before es w.1, omega (arith, w.4))
 tells-after k es o f left l q before mid end (Failed d) e w = (k + w.0, ap (after k es) w.1, omega (arith, w.2))
 tells-after k es o f left l q before mid end Broken e w = omega (arith, w, taken-after k es o f)
@@ -175,14 +175,14 @@ module _ {ar cells : List ℕ} {bs : Places} {trail : List ℕ} {n p q k a b : �
   first-fewer = omega (arith, ap equations joined, taken_then (unify (alone ar cells bs trail n a) (alone ar cells bs trail n b)) ls rs (unify-found (alone ar cells bs trail n a) (alone ar cells bs trail n b)))
 
   -- where the first is not unified, the others are not reached
-  pub ran-stop : {bs₁ : Places} {trail₁ marks₁ : List ℕ} {m left : ℕ} (r : Outcome) → ((l : ℕ) → r ≡ Unified l → ⊥) → Ran ar cells bs trail n (unify (alone ar cells bs trail n a) (alone ar cells bs trail n b)) left bs₁ trail₁ marks₁ m r → Ran ar cells bs trail n (unify (seen ar cells bs trail n p k) (seen ar cells bs trail n q k)) left bs₁ trail₁ marks₁ m r
-  ran-stop (Unified l) other w = absurd (other l refl)
-  ran-stop (Failed l) other w = record { state = w.state; tells = (w.tells.0, joined ∙ ap (λ o. then o ls rs) w.tells.1, w.tells.2) }
-  ran-stop Broken other w = record { state = w.state; tells = omega (arith, w.tells, first-fewer) }
+  pub unifies-stop : {bs₁ : Places} {trail₁ stamps₁ : List ℕ} {m left : ℕ} (r : Outcome) → ((l : ℕ) → r ≡ Unified l → ⊥) → UnifiesFrom ar cells bs trail n (unify (alone ar cells bs trail n a) (alone ar cells bs trail n b)) left bs₁ trail₁ stamps₁ m r → UnifiesFrom ar cells bs trail n (unify (seen ar cells bs trail n p k) (seen ar cells bs trail n q k)) left bs₁ trail₁ stamps₁ m r
+  unifies-stop (Unified l) other w = absurd (other l refl)
+  unifies-stop (Failed l) other w = record { state = w.state; tells = (w.tells.0, joined ∙ ap (λ o. then o ls rs) w.tells.1, w.tells.2) }
+  unifies-stop Broken other w = record { state = w.state; tells = omega (arith, w.tells, first-fewer) }
 
   -- the others, at p' and q', after the eliminations of the first
-  module _ {bs₁ : Places} {trail₁ marks₁ : List ℕ} {m l left : ℕ} (w : Ran ar cells bs trail n (unify (alone ar cells bs trail n a) (alone ar cells bs trail n b)) left bs₁ trail₁ marks₁ m (Unified l)) {p' q' : ℕ} (s : Next ar cells p k p') (t : Next ar cells q k q') where
-    moved : {i i' : ℕ} → Next ar cells i k i' → seen ar cells bs₁ trail₁ m i' (k - 1) ≡ applys w.tells.1 (applys (elims ar cells bs trail n) (others ar cells i k))
+  module _ {bs₁ : Places} {trail₁ stamps₁ : List ℕ} {m l left : ℕ} (w : UnifiesFrom ar cells bs trail n (unify (alone ar cells bs trail n a) (alone ar cells bs trail n b)) left bs₁ trail₁ stamps₁ m (Unified l)) {p' q' : ℕ} (s : RestAt ar cells p k p') (t : RestAt ar cells q k q') where
+    moved : {i i' : ℕ} → RestAt ar cells i k i' → seen ar cells bs₁ trail₁ m i' (k - 1) ≡ applys w.tells.1 (applys (elims ar cells bs trail n) (others ar cells i k))
     moved {i} x = ap₂ applys w.tells.3 x.same ∙ applys-join (elims ar cells bs trail n) w.tells.1 (others ar cells i k)
 
     abbrev o₁ : Unification
@@ -201,18 +201,18 @@ module _ {ar cells : List ℕ} {bs : Places} {trail : List ℕ} {n p q k a b : �
           ap equations w.tells.2,
         )
 
-    pub ran-rest : {bs₂ : Places} {trail₂ marks₂ : List ℕ} {n' : ℕ} {r : Outcome} → Ran ar cells bs₁ trail₁ m (unify (seen ar cells bs₁ trail₁ m p' (k - 1)) (seen ar cells bs₁ trail₁ m q' (k - 1))) l bs₂ trail₂ marks₂ n' r → Ran ar cells bs trail n (unify (seen ar cells bs trail n p k) (seen ar cells bs trail n q k)) left bs₂ trail₂ marks₂ n' r
-    ran-rest {bs₂} {trail₂} {n' = n'} {r = r} z =
+    pub unifies-rest : {bs₂ : Places} {trail₂ stamps₂ : List ℕ} {n' : ℕ} {r : Outcome} → UnifiesFrom ar cells bs₁ trail₁ m (unify (seen ar cells bs₁ trail₁ m p' (k - 1)) (seen ar cells bs₁ trail₁ m q' (k - 1))) l bs₂ trail₂ stamps₂ n' r → UnifiesFrom ar cells bs trail n (unify (seen ar cells bs trail n p k) (seen ar cells bs trail n q k)) left bs₂ trail₂ stamps₂ n' r
+    unifies-rest {bs₂} {trail₂} {n' = n'} {r = r} z =
         let f = unify-found (seen ar cells bs₁ trail₁ m p' (k - 1)) (seen ar cells bs₁ trail₁ m q' (k - 1)) in
-        ran-by (record { state = z.state; tells = tells-after w.tells.0 w.tells.1 o₁ f left l w.tells.4 (elims ar cells bs trail n) (elims ar cells bs₁ trail₁ m) (elims ar cells bs₂ trail₂ n') r w.tells.3 z.tells }) rest
+        unifies-by (record { state = z.state; tells = tells-after w.tells.0 w.tells.1 o₁ f left l w.tells.4 (elims ar cells bs trail n) (elims ar cells bs₁ trail₁ m) (elims ar cells bs₂ trail₂ n') r w.tells.3 z.tells }) rest
 
 -- 4. From no bindings.
 
-is-told : (o : Unification) (left : ℕ) (es : Substitution) (r : Outcome) → Tells o left done es r → Is o left es r
+is-told : (o : Unification) (left : ℕ) (es : Substitution) (r : Outcome) → OutcomeFrom o left done es r → OutcomeOf o left es r
 is-told o left es (Unified l) w = (w.0, w.2 ∙ ap (solved w.0) (sym w.3), w.4)
 is-told o left es (Failed l) w = w
 is-told o left es Broken w = w
 
-pub ran-ended : {ar cells : List ℕ} {bs : Places} {trail : List ℕ} (p q k : ℕ) {left : ℕ} {bs' : Places} {trail' marks' : List ℕ} {n' : ℕ} {r : Outcome} → Ran ar cells bs trail 0 (unify (seen ar cells bs trail 0 p k) (seen ar cells bs trail 0 q k)) left bs' trail' marks' n' r → Ended ar cells (unify (take_t k (from ar cells p)) (take_t k (from ar cells q))) left bs' trail' marks' n' r
+pub unifies-ended : {ar cells : List ℕ} {bs : Places} {trail : List ℕ} (p q k : ℕ) {left : ℕ} {bs' : Places} {trail' stamps' : List ℕ} {n' : ℕ} {r : Outcome} → UnifiesFrom ar cells bs trail 0 (unify (seen ar cells bs trail 0 p k) (seen ar cells bs trail 0 q k)) left bs' trail' stamps' n' r → Unifies ar cells (unify (take_t k (from ar cells p)) (take_t k (from ar cells q))) left bs' trail' stamps' n' r
 unfolding elims_after
-ran-ended {ar} {cells} p q k {left} {bs'} {trail'} {n' = n'} {r = r} w = record { good = w.state.good; trailed = state-trailed w.state; is = is-told _ left (elims ar cells bs' trail' n') r w.tells }
+unifies-ended {ar} {cells} p q k {left} {bs'} {trail'} {n' = n'} {r = r} w = record { triangular = w.state.triangular; trailed = state-trailed w.state; is = is-told _ left (elims ar cells bs' trail' n') r w.tells }

@@ -1,10 +1,10 @@
--- `mark` meets its contract. Assumes nothing.
+-- `stamp` meets its contract. Assumes nothing.
 use mathlib.Core.Path.{sym, refl}
 use native.Mathlib.Decide.{dec_lt}
 use native.Mathlib.Omega.{arith}
 use Rattle.matching.specs.Bindings.{stamped}
 use Rattle.rules.proofs.TermLaws.{ite-yes, ite-no}
-use Rattle.matching.proofs.occurs.mark.Goals as goal
+use Rattle.matching.proofs.occurs.set_stamp.Goals as goal
 
 pub returns-then-cell-ge-VARIABLE : goal.returns-then-cell-ge-VARIABLE
 unfolding stamped
