@@ -27,7 +27,7 @@
  *   leads_drill       1 to 5, 19
  *   leads_levels      1 to 5
  *   leads_mean        1 to 5, 17, 18
- * So a deck with a loose variable (13) can be opened, read and written as text, and mended, and its drill terms are listed and its levels told, but it takes no query and no open goals.
+ * So a deck with a loose variable (13) can be opened, read and written as text, and mended, and its drill terms are listed, its levels told and means taken over it, but it takes no query and no open goals.
  *
  * A deck is its words, at most 16,384, of format 1 or 2. Format 2 has numbers too, as lengths of shots:
  *   header   8 words: the format, 1 or 2; the number of symbols S, 1 to 4,096; 8; the number of clauses C; 8 + R, where the clause words
@@ -50,6 +50,9 @@
  *
  * A length is a number of words, or of bytes for text. A pointer may be anything where its length is 0, but not null; nor may a pointer to
  * a result be null. The slices must not overlap.
+ *
+ * Nothing is allocated: tables stand on the stack. A run has some 100 KiB of them, and so has reading a text; beside them a run recurses over its
+ * levels, 33 at most, and over terms, some 1,300 deep at most.
  */
 #ifndef LEADS_H
 #define LEADS_H
@@ -183,7 +186,8 @@ uint32_t leads_levels(const uint16_t *deck, size_t deck_words, uint16_t *levels,
  * column's entries. The list is an answer list that a run has left, or one filled by hand: it begins with count answers, 1 to 65,535, of terms
  * terms each, goals as leads_continue takes pending ones, but without literals; the words after them are not looked at. column is the place of one
  * of the terms, counted from 0. Of a run, count is its answer_count and terms the number of the query's variables, so that each variable's
- * number is its column; then only count 0 or a column past the terms is 17. Where it returns 0:
+ * number is its column; then only a count of 0 or over 65,535, or a column past the
+ * terms, is 17. Where it returns 0:
  *   sum        the sum of the values, -2,147,450,880 to 2,147,385,345
  *   whole      the mean's whole part, rounded down: the sum -7 of 2 answers gives -4 and 1
  *   remainder  what is left, 0 up to the count less one: the sum is whole times count, and remainder

@@ -1,8 +1,7 @@
 -- What the two outputs hold.
-use Prim.Native.Nat.{ℕ, ◌≤◌}
+use Prim.Native.Nat.{ℕ}
 use mathlib.Core.Path.{◌≡◌, refl, ap, sym}
 use mathlib.Core.List.{List}
-use native.Mathlib.Omega.{arith}
 use lib.ListN.{length}
 use Rattle.rules.specs.Refusals.{Checked, accepted}
 use Rattle.rules.specs.Listing.{listing}
@@ -11,9 +10,8 @@ use Rattle.rules.specs.Run.{report}
 use Rattle.rules.specs.Run as run
 use Rattle.rules.specs.CarryProgram.{Kept, kept_listing, kept_goals}
 use Rattle.report.specs.declared.Report.{Report}
-use Rattle.listing.specs.Put.{Put}
+use Rattle.listing.specs.Printed.{Printed}
 use Rattle.listing.specs.Shown.{Shown}
-use Rattle.listing.proofs.PrintedLaws.{put-printed}
 use Rattle.std.specs.Prelude.{Result, Ok, Err, Option}
 use Rattle.deck.specs.declared.Refusal.{Refusal as Why}
 use Rattle.carry_program.specs.declared.output.Outputs.{Outputs}
@@ -32,11 +30,10 @@ Leaves-or_refusal c out left (Err why) out₁ left₁ m out₂ p q = rw (p.0, p.
   goals = ((refusal_for why, refl), refl);
 })
 
-module _ {out left : List ℕ} {end : ℕ} {after : List ℕ} (c : Checked Kept) where
-  pub kept-both : {m : Option ℕ} {left' : List ℕ} (k : Kept) → c ≡ accepted k → Put out 0 (listing (accepted k.outcome)) end after → end ≤ length out
-      → Keeps c left m left' → Both c out left end m after left'
-  unfolding kept_listing
-  kept-both k e p h q = record { listing = rw e (put-printed p (omega (arith, p.place))); goals = q }
+pub kept-both : {out left : List ℕ} {end : ℕ} {after : List ℕ} (c : Checked Kept) {m : Option ℕ} {left' : List ℕ} (k : Kept) → c ≡ accepted k
+    → Printed (listing (accepted k.outcome)) out end after → Keeps c left m left' → Both c out left end m after left'
+unfolding kept_listing
+kept-both c k e p q = record { listing = rw e p; goals = q }
 
 -- The counts of a report are those of the outcome that it shows.
 pub counts_of : (o : Outcome) (r : Report) (list symbol_words : List ℕ) → Shown o r list symbol_words → (length o.pending ≡ r.pending) × (length o.parked ≡ r.parked)

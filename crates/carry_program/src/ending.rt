@@ -6,6 +6,7 @@ use crate::output::Outputs;
 use deck::opened::Opened;
 use listing::output::Output;
 use program::lists::Lists;
+use program_parts::put_run;
 use report::Report;
 use stored::OpenCounts;
 
@@ -25,13 +26,9 @@ impl Ending<'_> {
         requires { SomeFinished self.now.deck.words.now self.now.terms self.now.lists.now.answers self.now.lists.now.store self.now.report }
         ensures { FinishedPrinted self.now.deck.words.now self.now.terms self.now.lists.now.answers self.now.lists.now.store self.now.report out.old left.old result.listing result.goals out.new left.new }
     {
-        let mut out = Output::new(out);
-        out.put_listing(self.report, &self.lists.answers, self.deck.symbols());
+        let listing = put_run(self.report, &self.lists.answers, self.deck.symbols(), out);
         let goals = self.put_goals(left);
-        Outputs {
-            listing: out.at,
-            goals,
-        }
+        Outputs { listing, goals }
     }
 
     // The goals left as a file: their two counts, the number of answer terms, and their words, which the store begins with.

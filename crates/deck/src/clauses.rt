@@ -14,7 +14,8 @@ pub fn fit(symbols: &[u16], rows: &Rows) -> bool
     (0..rows.starts.len()).all(|i| clause(symbols, rows.row(i)))
 }
 
-// A positive literal, the head, and then literals.
+// A positive literal, the head, and then literals. Called for one clause too, so LLVM would leave it out of the loop.
+#[inline(always)]
 pub fn clause(symbols: &[u16], cells: &[u16]) -> bool
     ensures { result ≡ found (read_clause (symbols_of symbols.now) cells.now) }
 {

@@ -15,6 +15,7 @@ use Rattle.rules.specs.Goals.{Marked, unmarked, write_goals, words_of, marked_wo
 use Rattle.rules.specs.WellFormed.{WfGoal, WfMarked}
 use Rattle.rules.specs.Stored.{OpenGoals, read_open}
 use Rattle.rules.specs.Rights.{check_rights}
+use Rattle.rules.specs.Evaluation.{evaluate}
 use Rattle.rules.specs.Run.{Carried, run_from, check_sizes, carry, carry_on, carry_from, RanOn}
 use Rattle.rules.proofs.ListLaws.{all-weaken, all_append, unmarked-all}
 use Rattle.rules.proofs.GoalLaws.{goals-length, marked_words-append, unmarked-words}
@@ -23,19 +24,15 @@ use Rattle.rules.proofs.Carried.{carry-parts}
 use Rattle.deck.specs.Answers.{number_of, refusal_for}
 use Rattle.deck.specs.declared.Refusal.{Refusal}
 use Rattle.deck.specs.declared.Refusal.TheVariants as why
-use Rattle.std.specs.Prelude.{Option, Some, None, Result, Ok, Err}
+use Rattle.std.specs.Prelude.{Option, Some, None, Ok, Err}
 use Rattle.std.specs.Option.{ok_or}
 use Rattle.stored.specs.Passing.{OpenFound}
 use Rattle.rights.specs.Reached.{AreGoals}
 use Rattle.report.specs.declared.Report.{Report}
 use Rattle.top_level.specs.Top.{InOrder}
-use Rattle.evaluation.specs.Results.{check_goals, result_of, slices, OpenAs, CarriedAs}
+use Rattle.evaluation.specs.Results.{check_goals, result_of, slices, OpenAs, CarriedAs, admitted}
 use Rattle.deck.proofs.RefusalLaws.{number-accepts, number-refuses}
-use Rattle.evaluation.proofs.RunLaws.{passes, sizes-are, RunTops, from-refused, from-accepted, gives-refused, gives-accepted}
-
--- Words open as one deck.
-pub one-deck : (ws : List ℕ) (d e : Deck) → open_deck ws ≡ accepted d → open_deck ws ≡ accepted e → d ≡ e
-one-deck ws d e p q = let z : accepted d ≡ accepted e = sym p ∙ q in cc
+use Rattle.evaluation.proofs.RunLaws.{passes, sizes-are, RunTops, gives-refused, gives-accepted}
 
 -- The words of goals in order.
 pub goals-are : {S : List Symbol} {store : List ℕ} {held end : ℕ} {gs : List Goal} {ms : List Marked} → InOrder S store held end gs ms → AreGoals S (take end store) (unmarked gs ++ ms)
@@ -79,6 +76,17 @@ module _ (d : Deck) (store : List ℕ) (n k terms : ℕ) where
   not-open None w e f = let z : why.Goals ≡ w = cc in rw (← z, f)
   not-open (Some p) w e f = absurd (let z : ◌≡◌ {A = ℕ} 0 1 = cc in omega arith)
 
+-- What goes on from a member's open goals.
+pub admitted-then : {B : Type 0} (c : Checked Carried) (bars : List ℕ) (f : Carried → B)
+    → and_then c (λ x. and_then (check_rights x.deck bars (unmarked x.goals.pending ++ x.goals.parked)) (λ _. accepted (f x))) ≡ and_then (admitted c bars) (λ x. accepted (f x))
+unfolding admitted and_then
+admitted-then (refused n) bars f = refl
+admitted-then {B} (accepted x) bars f = rights (check_rights x.deck bars (unmarked x.goals.pending ++ x.goals.parked))
+  where
+    rights : (t : Checked (Unit {0})) → and_then t (λ _. accepted (f x)) ≡ and_then (and_then t (λ _. accepted x)) (λ y. accepted (f y))
+    rights (refused n) = refl
+    rights (accepted u) = refl
+
 -- ALL CHECKS
 goals-then : (c : Checked OpenGoals) (t : Checked (Unit {0})) (f : OpenGoals → Carried)
     → and_then c (λ g. and_then t (λ _. accepted (f g))) ≡ and_then (and_then c (λ g. and_then t (λ _. accepted g))) (λ g. accepted (f g))
@@ -106,64 +114,86 @@ module _ (deck_words : List ℕ) (n k terms : ℕ) (store : List ℕ) (scratch_s
     unfolding carry and_then
     sizes-refused why e = let s = number-refuses why (check_sizes (length store) scratch_size) e in rw (o, s)
 
-    pub carried-as : 0 ≡ checked_number (check_sizes (length store) scratch_size) → (r : Result (ℕ × ℕ) Refusal) → OpenAs d.symbols (check_goals d n k terms store) store r → CarriedAs carries store r
-    unfolding and_then
-    carried-as e (Err x) h = let s = number-accepts (check_sizes (length store) scratch_size) e in both-pass deck_words n k terms store scratch_size d s.0 o s.1 ∙ rw h
-    carried-as e (Ok places) h =
-        let s = number-accepts (check_sizes (length store) scratch_size) e in
-        (record { deck = d; goals = h.0 }, both-pass deck_words n k terms store scratch_size d s.0 o s.1 ∙ rw h.1, h.2)
+    module _ (fit : 0 ≡ checked_number (check_sizes (length store) scratch_size)) where
+      goals-next : carries ≡ and_then (check_goals d n k terms store) (λ g. accepted (record { deck = d; goals = g }))
+      goals-next = let s = number-accepts (check_sizes (length store) scratch_size) fit in both-pass deck_words n k terms store scratch_size d s.0 o s.1
 
--- THE RUN: refused, and from the goals that were let through.
-module _ (deck_words : List ℕ) (n k terms : ℕ) (store scratch : List ℕ) where
-  abbrev lets : Checked Carried
-  lets = carry deck_words n k terms store (length scratch)
-
-  pub ran-on-refused : (bars : List ℕ) (budget : ℕ) (answers : List ℕ) (w : Refusal) → lets ≡ refused (refusal_for w)
-      → RanOn deck_words n k terms bars budget (slices answers store scratch) (result_of (Err w)) (slices answers store scratch)
-  unfolding carry_from carry_on and_then
-  ran-on-refused bars budget answers w e =
-      let c : carry_from deck_words n k terms bars budget (slices answers store scratch) ≡ refused (refusal_for w) = rw e in
-      gives-refused (carry_from deck_words n k terms bars budget (slices answers store scratch)) (slices answers store scratch) w c
-
-  module _ (p : ℕ × ℕ) (h : CarriedAs lets store (Ok p)) where
-    pub carried-sizes : (8192 ≤ length scratch) × (length store ≤ 65535)
-    unfolding carry
-    carried-sizes =
-        let d = passes (open_deck deck_words) _ h.0 h.1 in
-        let s = passes (check_sizes (length store) (length scratch)) _ h.0 d.2 in
-        let z = sizes-are (length store) (length scratch) s.0 s.1 in
-        (z.2, z.1)
-
-    pub carried-opens : open_deck deck_words ≡ accepted h.0.deck
-    carried-opens = (carry-parts deck_words n k terms store (length scratch) h.0 h.1).0
-
-    -- Where the goals end.
-    pub carried-inside : (p.0 ≤ p.1) × (p.1 ≤ length store)
-    carried-inside = let o = h.2 in (omega (arith, o.parked_words), o.inside)
-
-    -- The words of the goals, for the checks of a member's rights.
-    pub carried-goals : AreGoals h.0.deck.symbols (take p.1 store) (unmarked h.0.goals.pending ++ h.0.goals.parked)
-    carried-goals = goals-are h.2
-
-    module _ (bars : List ℕ) (budget : ℕ) (answers : List ℕ) where
-      from-next : carry_from deck_words n k terms bars budget (slices answers store scratch) ≡ run_from h.0.deck bars h.0.goals.pending h.0.goals.parked budget (length answers) (length store)
-      unfolding carry_from carry_on and_then
-      from-next = let e = h.1 in rw e
+      pub goals-refused : (w : Refusal) → OpenAs d.symbols (check_goals d n k terms store) store (Err w) → carries ≡ refused (refusal_for w)
+      unfolding and_then
+      goals-refused w h = goals-next ∙ rw h
 
       -- 15 and 16.
-      pub ran-on-barred : (w : Refusal) → number_of (Err w) ≡ checked_number (check_rights h.0.deck bars (unmarked h.0.goals.pending ++ h.0.goals.parked))
-          → RanOn deck_words n k terms bars budget (slices answers store scratch) (result_of (Err w)) (slices answers store scratch)
-      ran-on-barred w e =
-          gives-refused (carry_from deck_words n k terms bars budget (slices answers store scratch)) (slices answers store scratch) w
-          (from-next ∙ from-refused h.0.deck bars h.0.goals.pending h.0.goals.parked budget (length answers) (length store) w e)
+      module _ (bars : List ℕ) (p : ℕ × ℕ) (h : OpenAs d.symbols (check_goals d n k terms store) store (Ok p)) where
+        abbrev rights : Checked (Unit {0})
+        rights = check_rights d bars (unmarked h.0.pending ++ h.0.parked)
 
-      pub ran-on-accepted : 0 ≡ checked_number (check_rights h.0.deck bars (unmarked h.0.goals.pending ++ h.0.goals.parked))
-          → (answers' store' scratch' : List ℕ) (r : Report) → length store' ≡ length store → length scratch' ≡ length scratch
-          → ((d : Deck) (gs : List Goal) (ms : List Marked) → open_deck deck_words ≡ accepted d → InOrder d.symbols store p.0 p.1 gs ms → RunTops d (length store) answers gs ms budget answers' store' r)
-          → RanOn deck_words n k terms bars budget (slices answers store scratch) (result_of (Ok r)) (slices answers' store' scratch')
-      ran-on-accepted e answers' store' scratch' r same rest topped =
-          let x = h.0 in
-          let gs = x.goals.pending in
-          let ms = x.goals.parked in
-          gives-accepted x.deck gs ms budget answers store scratch answers' store' scratch' r (carry_from deck_words n k terms bars budget (slices answers store scratch))
-          (from-next ∙ from-accepted x.deck bars gs ms budget (length answers) (length store) e) same rest (topped x.deck gs ms carried-opens h.2)
+        found : carries ≡ accepted (record { deck = d; goals = h.0 })
+        unfolding and_then
+        found = let e = h.1 in goals-next ∙ rw e
+
+        pub barred : (w : Refusal) → number_of (Err w) ≡ checked_number rights → admitted carries bars ≡ refused (refusal_for w)
+        unfolding admitted and_then
+        barred w e = let r = number-refuses w rights e in let f = found in rw (f, r)
+
+        pub let-through : 0 ≡ checked_number rights → CarriedAs (admitted carries bars) store (Ok p)
+        unfolding admitted and_then
+        let-through e = let r = number-accepts rights e in let f = found in (record { deck = d; goals = h.0 }, rw (f, r.1), h.2)
+
+  -- A MEMBER'S OPEN GOALS.
+  module _ (bars : List ℕ) where
+    abbrev lets : Checked Carried
+    lets = admitted carries bars
+
+    pub refused-first : (w : Refusal) → carries ≡ refused (refusal_for w) → lets ≡ refused (refusal_for w)
+    unfolding admitted and_then
+    refused-first w e = rw e
+
+    -- The goals that are let through.
+    module _ (p : ℕ × ℕ) (h : CarriedAs lets store (Ok p)) where
+      pub let-carries : carries ≡ accepted h.0
+      unfolding admitted
+      let-carries =
+          let c = passes carries _ h.0 h.1 in
+          let r = passes (check_rights c.0.deck bars (unmarked c.0.goals.pending ++ c.0.goals.parked)) _ h.0 c.2 in
+          c.1 ∙ r.2
+
+      pub carried-sizes : (8192 ≤ scratch_size) × (length store ≤ 65535)
+      unfolding carry
+      carried-sizes =
+          let d = passes (open_deck deck_words) _ h.0 let-carries in
+          let s = passes (check_sizes (length store) scratch_size) _ h.0 d.2 in
+          let z = sizes-are (length store) scratch_size s.0 s.1 in
+          (z.2, z.1)
+
+      pub carried-opens : open_deck deck_words ≡ accepted h.0.deck
+      carried-opens = (carry-parts deck_words n k terms store scratch_size h.0 let-carries).0
+
+      -- Where the goals end.
+      pub carried-inside : (p.0 ≤ p.1) × (p.1 ≤ length store)
+      carried-inside = let o = h.2 in (omega (arith, o.parked_words), o.inside)
+
+-- THE RUN: refused, and from the goals that were let through.
+module _ (deck_words : List ℕ) (n k terms : ℕ) (store scratch bars : List ℕ) (budget : ℕ) (answers : List ℕ) where
+  abbrev admits : Checked Carried
+  admits = admitted (carry deck_words n k terms store (length scratch)) bars
+
+  from-admitted : carry_from deck_words n k terms bars budget (slices answers store scratch)
+      ≡ and_then admits (λ x. accepted (evaluate x.deck (length answers) (length store) x.goals.pending x.goals.parked budget))
+  unfolding carry_from carry_on run_from
+  from-admitted = admitted-then (carry deck_words n k terms store (length scratch)) bars (λ x. evaluate x.deck (length answers) (length store) x.goals.pending x.goals.parked budget)
+
+  pub ran-on-refused : (w : Refusal) → admits ≡ refused (refusal_for w)
+      → RanOn deck_words n k terms bars budget (slices answers store scratch) (result_of (Err w)) (slices answers store scratch)
+  unfolding and_then
+  ran-on-refused w e =
+      gives-refused (carry_from deck_words n k terms bars budget (slices answers store scratch)) (slices answers store scratch) w (from-admitted ∙ rw e)
+
+  pub ran-on-accepted : (p : ℕ × ℕ) (h : CarriedAs admits store (Ok p))
+      → (answers' store' scratch' : List ℕ) (r : Report) → length store' ≡ length store → length scratch' ≡ length scratch
+      → RunTops h.0.deck (length store) answers h.0.goals.pending h.0.goals.parked budget answers' store' r
+      → RanOn deck_words n k terms bars budget (slices answers store scratch) (result_of (Ok r)) (slices answers' store' scratch')
+  unfolding and_then
+  ran-on-accepted p h answers' store' scratch' r same rest topped =
+      let x = h.0 in
+      gives-accepted x.deck x.goals.pending x.goals.parked budget answers store scratch answers' store' scratch' r (carry_from deck_words n k terms bars budget (slices answers store scratch))
+      (from-admitted ∙ (let e = h.1 in rw e)) same rest topped

@@ -7,9 +7,8 @@ use lib.ListN.{length, take, drop}
 use lib.Seq.{take_at}
 use Rattle.std.specs.Prelude.{Ok, Err}
 use Rattle.rules.specs.Syntax.{Deck, Goal}
-use Rattle.rules.specs.Refusals.{Checked, refused, accepted, and_then, checked_number}
+use Rattle.rules.specs.Refusals.{Checked, refused, accepted, and_then}
 use Rattle.rules.specs.Goals.{Marked, unmarked, goal_words, marked_words, write_goals, words_of}
-use Rattle.rules.specs.Rights.{check_rights}
 use Rattle.rules.specs.Evaluation as rules
 use Rattle.rules.specs.Evaluation.{finished}
 use Rattle.rules.specs.Run.{Carried, carry, answers_after, store_start, Slices}
@@ -19,17 +18,16 @@ use Rattle.rules.proofs.GoalLaws.{goals-length, unmarked-words}
 use Rattle.rules.proofs.StoredLaws.{OpenReads, open-reads}
 use Rattle.rules.proofs.PressLaws.{press-finished, press-prevented}
 use Rattle.rules.proofs.Carried.{carry-parts}
-use Rattle.deck.specs.Answers.{number_of, refusal_for}
+use Rattle.deck.specs.Answers.{refusal_for}
 use Rattle.deck.specs.declared.Refusal.{Refusal}
 use Rattle.report.specs.Reports.{ending_of, advance_of, counted_of}
 use Rattle.report.specs.declared.Advance.{Advance}
 use Rattle.report.specs.declared.Advance.TheVariants.{Stepped, Prevented}
 use Rattle.report.specs.declared.Pressed.{Pressed}
 use Rattle.top_level.specs.Top.{opening, TopLevelEnds, of_press}
-use Rattle.evaluation.specs.Results.{slices, CarriedAs}
+use Rattle.evaluation.specs.Results.{slices, CarriedAs, admitted}
 use Rattle.evaluation.specs.Displays.{finished_press, pressed_of}
-use Rattle.deck.proofs.RefusalLaws.{number-accepts, number-refuses}
-use Rattle.evaluation.proofs.CarryLaws.{carried-sizes}
+use Rattle.evaluation.proofs.CarryLaws.{admitted-then, let-carries, carried-sizes}
 
 -- What a press leaves, from the goals gs pending and ms parked, in a store of so many words. It asks of the store only how long it is.
 abbrev pub PressTops : Deck → ℕ → List ℕ → List Goal → List Marked → ℕ → List ℕ → List ℕ → Pressed → Type 0
@@ -54,23 +52,25 @@ none-left : (gs : List Goal) → length gs ≡ 0 → gs ≡ []
 none-left [] e = refl
 none-left (g ∷ gs) e = absurd (omega (arith, e))
 
-module _ (deck_words : List ℕ) (n k terms : ℕ) (store scratch : List ℕ) where
-  abbrev lets : Checked Carried
-  lets = carry deck_words n k terms store (length scratch)
+module _ (deck_words : List ℕ) (n k terms : ℕ) (store scratch bars : List ℕ) (budget : ℕ) (answers : List ℕ) where
+  abbrev admits : Checked Carried
+  admits = admitted (carry deck_words n k terms store (length scratch)) bars
 
-  refuses : (bars : List ℕ) (budget : ℕ) (answers : List ℕ) (w : Refusal) → press_from deck_words n k terms bars budget (slices answers store scratch) ≡ refused (refusal_for w)
+  from-admitted : press_from deck_words n k terms bars budget (slices answers store scratch)
+      ≡ and_then admits (λ x. accepted (press.press x.deck (length answers) (length store) x.goals.pending x.goals.parked budget))
+  unfolding press_from press_once
+  from-admitted =
+      admitted-then (carry deck_words n k terms store (length scratch)) bars (λ x. press.press x.deck (length answers) (length store) x.goals.pending x.goals.parked budget)
+
+  pub pressed-refused : (w : Refusal) → admits ≡ refused (refusal_for w)
       → PressedOn deck_words n k terms bars budget (slices answers store scratch) (pressed_of (Err w)) (slices answers store scratch)
-  unfolding counts PressLeaves
-  refuses bars budget answers w c =
+  unfolding counts and_then PressLeaves
+  pressed-refused w e =
       let s : Slices = slices answers store scratch in
+      let c : press_from deck_words n k terms bars budget s ≡ refused (refusal_for w) = from-admitted ∙ rw e in
       record { returns = sym (ap counts c); leaves = subst (λ (x : Checked press.Pressed). PressLeaves x s s) (sym c) refl }
 
-  pub pressed-refused : (bars : List ℕ) (budget : ℕ) (answers : List ℕ) (w : Refusal) → lets ≡ refused (refusal_for w)
-      → PressedOn deck_words n k terms bars budget (slices answers store scratch) (pressed_of (Err w)) (slices answers store scratch)
-  unfolding press_from press_once and_then
-  pressed-refused bars budget answers w e = refuses bars budget answers w (rw e)
-
-  module _ (p : ℕ × ℕ) (h : CarriedAs lets store (Ok p)) where
+  module _ (p : ℕ × ℕ) (h : CarriedAs admits store (Ok p)) where
     abbrev gs : List Goal
     gs = h.0.goals.pending
 
@@ -78,94 +78,78 @@ module _ (deck_words : List ℕ) (n k terms : ℕ) (store scratch : List ℕ) wh
     ms = h.0.goals.parked
 
     reads : OpenReads h.0.deck.symbols n k terms store h.0.goals
-    reads = open-reads h.0.deck.symbols n k terms store h.0.goals (carry-parts deck_words n k terms store (length scratch) h.0 h.1).1
+    reads = open-reads h.0.deck.symbols n k terms store h.0.goals
+        (carry-parts deck_words n k terms store (length scratch) h.0 (let-carries deck_words n k terms store (length scratch) bars p h)).1
 
     pub parked-small : k ≤ 65535
     parked-small =
         let o = h.2 in
-        omega (arith, reads.parked_many, marked-few ms, o.parked_words, o.inside, (carried-sizes deck_words n k terms store scratch p h).1)
+        omega (arith, reads.parked_many, marked-few ms, o.parked_words, o.inside, (carried-sizes deck_words n k terms store (length scratch) bars p h).1)
 
-    module _ (bars : List ℕ) (budget : ℕ) (answers : List ℕ) where
-      abbrev rights : Checked (Unit {0})
-      rights = check_rights h.0.deck bars (unmarked gs ++ ms)
+    presses : press_from deck_words n k terms bars budget (slices answers store scratch) ≡ accepted (press.press h.0.deck (length answers) (length store) gs ms budget)
+    unfolding and_then
+    presses = from-admitted ∙ (let e = h.1 in rw e)
 
-      from-rights :
-          press_from deck_words n k terms bars budget (slices answers store scratch)
-          ≡ and_then rights (λ _. accepted (press.press h.0.deck (length answers) (length store) gs ms budget))
-      unfolding press_from press_once and_then
-      from-rights = let e = h.1 in rw e
+    -- ON A FINISHED QUERY
+    pub pressed-finished : n ≡ 0
+        → PressedOn deck_words n k terms bars budget (slices answers store scratch) (pressed_of (Ok (finished_press k))) (slices answers store scratch)
+    unfolding counts counted PressLeaves answers_after store_start write_goals
+    pressed-finished z =
+        let s : Slices = slices answers store scratch in
+        let empty : gs ≡ [] = none-left gs (reads.pending_many ∙ z) in
+        let o : press.Pressed = record { advance = prevented finished; steps = 0; cost = 0; answers = []; pending = []; parked = ms } in
+        let is : press_from deck_words n k terms bars budget s ≡ accepted o =
+        presses ∙ ap (λ x. accepted (press.press h.0.deck (length answers) (length store) x ms budget)) empty
+        ∙ ap accepted (press-finished h.0.deck (length answers) (length store) ms budget) in
+        let begins : store ≡ write_goals ms ++ reads.rest = reads.written ∙ ap (λ x. write_goals (unmarked x ++ ms) ++ reads.rest) empty in
+        record {
+          returns = (λ i. accepted (record { advance = prevented finished; steps = 0; cost = 0; answers = 0; pending = 0; parked = sym reads.parked_many i })) ∙ ap counts (sym is);
+          leaves = subst (λ (x : Checked press.Pressed). PressLeaves x s s) (sym is) (record {
+            filled = record {
+              answers = refl;
+              store = ap (take (length (write_goals ms))) begins ∙ take_at (write_goals ms) reads.rest (length (write_goals ms)) refl;
+              store_length = refl;
+              scratch_length = refl;
+            };
+            untouched = λ _. refl;
+          });
+        }
 
-      -- 15 and 16.
-      pub pressed-barred : (w : Refusal) → number_of (Err w) ≡ checked_number rights
-          → PressedOn deck_words n k terms bars budget (slices answers store scratch) (pressed_of (Err w)) (slices answers store scratch)
-      unfolding and_then
-      pressed-barred w e = let r = number-refuses w rights e in refuses bars budget answers w (from-rights ∙ rw r)
-
-      module _ (right : 0 ≡ checked_number rights) where
-        presses : press_from deck_words n k terms bars budget (slices answers store scratch) ≡ accepted (press.press h.0.deck (length answers) (length store) gs ms budget)
-        unfolding and_then
-        presses = let r = number-accepts rights right in from-rights ∙ rw r.1
-
-        -- ON A FINISHED QUERY
-        pub pressed-finished : n ≡ 0
-            → PressedOn deck_words n k terms bars budget (slices answers store scratch) (pressed_of (Ok (finished_press k))) (slices answers store scratch)
-        unfolding counts counted PressLeaves answers_after store_start write_goals
-        pressed-finished z =
-            let s : Slices = slices answers store scratch in
-            let empty : gs ≡ [] = none-left gs (reads.pending_many ∙ z) in
-            let o : press.Pressed = record { advance = prevented finished; steps = 0; cost = 0; answers = []; pending = []; parked = ms } in
-            let is : press_from deck_words n k terms bars budget s ≡ accepted o =
-            presses ∙ ap (λ x. accepted (press.press h.0.deck (length answers) (length store) x ms budget)) empty
-            ∙ ap accepted (press-finished h.0.deck (length answers) (length store) ms budget) in
-            let begins : store ≡ write_goals ms ++ reads.rest = reads.written ∙ ap (λ x. write_goals (unmarked x ++ ms) ++ reads.rest) empty in
-            record {
-              returns = (λ i. accepted (record { advance = prevented finished; steps = 0; cost = 0; answers = 0; pending = 0; parked = sym reads.parked_many i })) ∙ ap counts (sym is);
-              leaves = subst (λ (x : Checked press.Pressed). PressLeaves x s s) (sym is) (record {
-                filled = record {
-                  answers = refl;
-                  store = ap (take (length (write_goals ms))) begins ∙ take_at (write_goals ms) reads.rest (length (write_goals ms)) refl;
-                  store_length = refl;
-                  scratch_length = refl;
-                };
-                untouched = λ _. refl;
-              });
-            }
-
-        -- FROM GOALS THAT ARE PENDING
-        pub pressed-accepted : (answers' store' scratch' : List ℕ) (r : Pressed) → length store' ≡ length store → length scratch' ≡ length scratch → 0 < n
-            → PressTops h.0.deck (length store) answers gs ms budget answers' store' r
-            → PressedOn deck_words n k terms bars budget (slices answers store scratch) (pressed_of (Ok r)) (slices answers' store' scratch')
-        unfolding press.press counts counted PressLeaves answers_after store_start
-        pressed-accepted answers' store' scratch' r same rest some t =
-            let l = t.level in
-            let o : press.Pressed =
-            record { advance = press.advance_of (ending_of r.advance); steps = t.account.steps; cost = budget - t.account.left; answers = l.answers; pending = l.pending; parked = l.parked } in
-            let does : press.press h.0.deck (length answers) (length store) gs ms budget ≡ o = ap (press.pressed_of budget) t.ends in
-            let is : press_from deck_words n k terms bars budget (slices answers store scratch) ≡ accepted o = presses ∙ ap accepted does in
-            let m : length (write_goals (unmarked l.answers)) ≡ words_of l.answers = goals-length (unmarked l.answers) ∙ unmarked-words l.answers in
-            record {
-              returns =
-                  (λ i. accepted (record {
-                    advance = sym (advance-same r.advance) i;
-                    steps = t.steps i;
-                    cost = t.cost i;
-                    answers = t.answered i;
-                    pending = t.ordered.pending i;
-                    parked = t.ordered.parked i;
-                  }))
-                  ∙ ap counts (sym is);
-              leaves = subst (λ (x : Checked press.Pressed). PressLeaves x (slices answers store scratch) (slices answers' store' scratch')) (sym is) (record {
-                filled = record {
-                  answers = t.listed ∙ ap (λ (j : ℕ). write_goals (unmarked l.answers) ++ drop j answers) (sym m);
-                  store = t.ordered.begins;
-                  store_length = same;
-                  scratch_length = rest;
-                };
-                untouched = λ e.
-                    let empty : gs ≡ [] = press-prevented h.0.deck (length answers) (length store) gs ms budget (ap (λ (x : press.Pressed). x.advance) does ∙ e) in
-                    absurd (omega (arith, reads.pending_many, ap length empty));
-              });
-            }
+    -- FROM GOALS THAT ARE PENDING
+    pub pressed-accepted : (answers' store' scratch' : List ℕ) (r : Pressed) → length store' ≡ length store → length scratch' ≡ length scratch → 0 < n
+        → PressTops h.0.deck (length store) answers gs ms budget answers' store' r
+        → PressedOn deck_words n k terms bars budget (slices answers store scratch) (pressed_of (Ok r)) (slices answers' store' scratch')
+    unfolding press.press counts counted PressLeaves answers_after store_start
+    pressed-accepted answers' store' scratch' r same rest some t =
+        let l = t.level in
+        let o : press.Pressed =
+        record { advance = press.advance_of (ending_of r.advance); steps = t.account.steps; cost = budget - t.account.left; answers = l.answers; pending = l.pending; parked = l.parked } in
+        let does : press.press h.0.deck (length answers) (length store) gs ms budget ≡ o = ap (press.pressed_of budget) t.ends in
+        let is : press_from deck_words n k terms bars budget (slices answers store scratch) ≡ accepted o = presses ∙ ap accepted does in
+        let m : length (write_goals (unmarked l.answers)) ≡ words_of l.answers = goals-length (unmarked l.answers) ∙ unmarked-words l.answers in
+        record {
+          returns =
+              (λ i. accepted (record {
+                advance = sym (advance-same r.advance) i;
+                steps = t.steps i;
+                cost = t.cost i;
+                answers = t.answered i;
+                pending = t.ordered.pending i;
+                parked = t.ordered.parked i;
+              }))
+              ∙ ap counts (sym is);
+          leaves = subst (λ (x : Checked press.Pressed). PressLeaves x (slices answers store scratch) (slices answers' store' scratch')) (sym is) (record {
+            filled = record {
+              answers = t.listed ∙ ap (λ (j : ℕ). write_goals (unmarked l.answers) ++ drop j answers) (sym m);
+              store = t.ordered.begins;
+              store_length = same;
+              scratch_length = rest;
+            };
+            untouched = λ e.
+                let empty : gs ≡ [] = press-prevented h.0.deck (length answers) (length store) gs ms budget (ap (λ (x : press.Pressed). x.advance) does ∙ e) in
+                absurd (omega (arith, reads.pending_many, ap length empty));
+          });
+        }
 
 -- THE DISPLAY
 module _ (deck_words : List ℕ) (terms : ℕ) (bars : List ℕ) (budget : ℕ) (entry exit : Slices) (d : press.Display) where

@@ -99,7 +99,7 @@ module _ (κs : Lfts 6) (entry : ArgsD fresh.signature κs) (exit : AtExit fresh
   pub public-query-pressed :
       let f = public-first-record in
       (bs : List Lent) (last : List ℕ) (d : rules.Display)
-      → PressChain entry.0.now f.deck.symbols (length (query_variables f.query)) bs (left_in κs exit).store (display_from (report_of r)) last d → QueryPressed f.deck f.query bs last d
+      (chain : PressChain entry.0.now f.deck.symbols (length (query_variables f.query)) bs (left_in κs exit).store (display_from (report_of r)) last d) → QueryPressed f.deck f.query chain
   unfolding public-first-record
   public-query-pressed bs last d chain =
       query-presses entry.0.now entry.1.0.now entry.1.1.0.now lent_in (left_in κs exit) (report_of r) (rw zero-budget at post) bs last d chain

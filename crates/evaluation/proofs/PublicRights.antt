@@ -1,4 +1,4 @@
--- What the contracts of `run` and `carry_on` say to a member whose list bars predicates (document 02, U9). Of whatever words are passed over two decks with the
+-- What the contracts of `run`, `carry_on` and `press_display` say to a member whose list bars predicates (document 02, U9). Of whatever words are passed over two decks with the
 -- same symbols, which open and have no loose variables, and with the same clauses in the same order about each predicate that is not barred and that the
 -- query or the open goals reach: as long as both calls meet what the contract ensures (its reading `Post`), the member gets the same.
 use Prim.Native.Nat.{ℕ}
@@ -22,17 +22,24 @@ use Rattle.rules.specs.Stored.{OpenGoals, read_open}
 use Rattle.rules.specs.Evaluation.{Outcome}
 use Rattle.rules.specs.Run as rules
 use Rattle.rules.specs.Run.{report, returned, answers_after, store_start, Slices, Leaves, Gives, run_on, carry_from}
+use Rattle.rules.specs.Press.{Pressed, PressLeaves}
 use Rattle.rules.proofs.ClosedSites.{run-same, carry_same}
+use Rattle.rules.proofs.ClosedRuns.{SameSizes, pressed-same}
 use Rattle.deck.specs.declared.Refusal.{Refusal}
 use Rattle.report.specs.declared.Report.{Report}
+use Rattle.report.specs.declared.Advance.{Advance}
 use Rattle.std.specs.Prelude.{Result}
 use Rattle.evaluation.specs.Results.{result_of}
+use Rattle.evaluation.specs.Displays.{advanced_of}
 use Rattle.evaluation.specs.contracts.run as fresh
 use Rattle.evaluation.specs.contracts.carry.carry_on as carrying
+use Rattle.evaluation.specs.contracts.press.press_display as pressing
 use Rattle.evaluation.proofs.run.Reads as fresh-reads
 use Rattle.evaluation.proofs.carry.carry_on.Reads as carrying-reads
+use Rattle.evaluation.proofs.press.press_display.Reads as pressing-reads
 use Rattle.evaluation.proofs.PublicRun.{left_in}
 use Rattle.evaluation.proofs.PublicCarry.{lent_on, left_on}
+use Rattle.evaluation.proofs.PublicPress.{lent_press, left_press, shown_before, shown_after}
 
 -- Both answer lists begin with the same answers, and both stores with the same open goals.
 pub record SameWords (exit other : Slices) (r : rules.Report) : Type 0 where
@@ -98,3 +105,21 @@ module _ (κs λs : Lfts 5) (entry : ArgsD carrying.signature κs) (other : Args
       d e o p t u s store goals h entry.1.1.1.1.1.0 (length (lent_on κs entry).answers) in
       gives-same _ _ _ (left_on κs exit) (left_on λs other_exit) (result_of result) (result_of other_result) post
       (rw (pending, parked, terms, bars, budget, answers, scratch, ← q) at other_post)
+
+-- A PRESS over each of them, with the same record, from stores of one size that begin with the same open goals: both say the same and show the same,
+-- and leave what one press, or one refusal, says.
+module _ (κs λs : Lfts 6) (entry : ArgsD pressing.signature κs) (other : ArgsD pressing.signature λs) (exit : AtExit pressing.ended κs) (other_exit : AtExit pressing.ended λs)
+    (result other_result : Result Advance Refusal) (post : pressing-reads.Post κs entry result exit) (other_post : pressing-reads.Post λs other other_result other_exit) where
+  pub public-press-same : (d e : Deck) → open_deck entry.0.now ≡ accepted d → open_deck other.0.now ≡ accepted e → tight_clauses d.clauses ≡ true → tight_clauses e.clauses ≡ true
+      → d.symbols ≡ e.symbols → other.1.0 ≡ entry.1.0 → other.1.1.0.now ≡ entry.1.1.0.now → other.1.1.1.0 ≡ entry.1.1.1.0 → shown_before λs other ≡ shown_before κs entry
+      → SameSizes (lent_press κs entry) (lent_press λs other)
+      → let shown = shown_before κs entry in
+      read_open d.symbols shown.pending shown.parked entry.1.0 (lent_press λs other).store ≡ read_open d.symbols shown.pending shown.parked entry.1.0 (lent_press κs entry).store
+      → ((g : OpenGoals) → read_open d.symbols shown.pending shown.parked entry.1.0 (lent_press κs entry).store ≡ some g
+      → SameClauses d.clauses e.clauses entry.1.1.0.now (literals_of (unmarked g.pending ++ g.parked)))
+      → (advanced_of other_result ≡ advanced_of result) × (shown_after λs other_exit ≡ shown_after κs exit)
+      × (c : Checked Pressed) × PressLeaves c (lent_press κs entry) (left_press κs exit) × PressLeaves c (lent_press λs other) (left_press λs other_exit)
+  public-press-same d e o p t u s terms bars budget shown sizes goals h =
+      pressed-same entry.0.now other.0.now entry.1.1.0.now d e o p t u s entry.1.0 entry.1.1.1.0 (shown_before κs entry) (lent_press κs entry) (lent_press λs other) sizes (goals, h)
+      (left_press κs exit) (left_press λs other_exit) (advanced_of result) (advanced_of other_result) (shown_after κs exit) (shown_after λs other_exit) post
+      (rw (terms, bars, budget, shown) at other_post)

@@ -1,13 +1,14 @@
 -- The checks and the result of the public runs as the rules': a refusal, or the report.
-use Rattle.std.specs.Prelude.{ℕ, ◌≡◌, List, Result, Ok, Err}
+use Rattle.std.specs.Prelude.{ℕ, ◌≡◌, List, ◌++◌, Result, Ok, Err}
 use Rattle.rules.specs.Refusals as rules
 use Rattle.rules.specs.Refusals.{and_then as ◌>>=◌}
 use Rattle.rules.specs.Run as run
 use Rattle.rules.specs.Syntax.{Symbol, Literal, Deck, Goal}
-use Rattle.rules.specs.Goals.{Marked}
+use Rattle.rules.specs.Goals.{Marked, unmarked}
 use Rattle.rules.specs.Stored.{OpenGoals, read_open}
 use Rattle.rules.specs.Decks.{read_query}
 use Rattle.rules.specs.Loose.{check_tight, check_tight_query}
+use Rattle.rules.specs.Rights.{check_rights}
 use Rattle.report.specs.Reports.{report_of}
 use Rattle.deck.specs.Answers.{refusal_for}
 use Rattle.top_level.specs.Top.{Stored, opening, InOrder}
@@ -39,11 +40,18 @@ abbrev pub OpenAs : List Symbol → rules.Checked OpenGoals → List ℕ → Res
 OpenAs S c store (Ok p) = (o : OpenGoals) × (c ≡ rules.accepted o) × InOrder S store p.0 p.1 o.pending o.parked
 OpenAs S c store (Err why) = c ≡ rules.refused (refusal_for why)
 
--- What all checks before a run that carries on come to.
+-- What the checks of open goals come to.
 abbrev pub CarriedAs : rules.Checked run.Carried → List ℕ → Result (ℕ × ℕ) Refusal → Type 0
 CarriedAs c store (Ok p) =
     (x : run.Carried) × (c ≡ rules.accepted x) × InOrder x.deck.symbols store p.0 p.1 x.goals.pending x.goals.parked
 CarriedAs c store (Err why) = c ≡ rules.refused (refusal_for why)
+
+-- Last come 15 and 16, of the member's list and all the open goals. So a run that carries on and a press go on from the same goals, or are both refused.
+unfoldable pub admitted : rules.Checked run.Carried → List ℕ → rules.Checked run.Carried
+admitted carried bars = do
+  c ← carried
+  _ ← check_rights c.deck bars (unmarked c.goals.pending ++ c.goals.parked)
+  rules.accepted c
 
 abbrev pub places : Result Open Refusal → Result (ℕ × ℕ) Refusal
 places (Ok o) = Ok ((o.held, o.end))

@@ -4,7 +4,8 @@ ghost use Rattle.rules.specs.Syntax.{Deck};
 ghost use Rattle.rules.specs.Refusals.{accepted};
 ghost use Rattle.rules.specs.Decks.{open_deck};
 ghost use Rattle.rules.specs.Run.{carry, RanOn};
-ghost use Rattle.evaluation.specs.Results.{check_goals, result_of, slices, places, OpenAs, CarriedAs, Resumed};
+ghost use Rattle.clauses.specs.Index.{EmptyIndex};
+ghost use Rattle.evaluation.specs.Results.{check_goals, result_of, slices, admitted, places, OpenAs, CarriedAs, Resumed};
 
 use crate::{from_goals, sizes};
 use clauses::Clauses;
@@ -26,33 +27,35 @@ fn open_goals(deck: &Opened, counts: OpenCounts, store: &[u16]) -> Result<(usize
     Ok(goals)
 }
 
-// Open goals on a deck that opened: the places in the store after the pending ones and after the parked ones.
+// Open goals that are let through: the deck's clauses, and the places in the store after the pending goals and after the parked ones.
 #[derive(Clone, Copy)]
-pub struct Open<'a> {
-    pub deck: Opened<'a>,
+pub(crate) struct Open<'a> {
+    pub clauses: Clauses<'a>,
     pub held: usize,
     pub end: usize,
 }
 
-// Refusals 1 to 5 of the deck, 8 and 9 of the sizes, then 12 of the goals and 13 of the deck; or the open goals.
-pub fn carried<'a>(
+// Refusals 1 to 5 of the deck, 8 and 9 of the sizes, 12 of the goals, 13 of the deck, then 15 and 16 of the member's list; or the open goals.
+pub(crate) fn carried<'a>(
     deck: &'a [u16],
     counts: OpenCounts,
+    bars: &[u16],
     store: &[u16],
-    scratch: usize,
+    scratch: &[u16],
     table: &'a mut [u16; 4096],
+    index: &'a mut Index,
 ) -> Result<Open<'a>, Refusal>
-    ensures goals { CarriedAs (carry deck.now counts.pending counts.parked counts.terms store.now scratch) store.now (places result) }
-    ensures words { IfOk result (λ o. o.deck.words.now ≡ deck.now) }
+    requires { EmptyIndex index.old }
+    ensures goals { CarriedAs (admitted (carry deck.now counts.pending counts.parked counts.terms store.now (length scratch.now)) bars.now) store.now (places result) }
+    ensures words { IfOk result (λ o. o.clauses.deck.words.now ≡ deck.now) }
 {
     let opened = Opened::new(deck, table)?;
-    sizes(store.len(), scratch)?;
+    sizes(store.len(), scratch.len())?;
     let (held, end) = open_goals(&opened, counts, store)?;
-    Ok(Open {
-        deck: opened,
-        held,
-        end,
-    })
+    index.fill(&opened);
+    let clauses = Clauses::new(opened, index);
+    rights::check_goals(&clauses, &store[..end], bars)?;
+    Ok(Open { clauses, held, end })
 }
 
 // THE PUBLIC CALL: a run that carries on from the goals that the store begins with, `pending` of them pending and then `parked` of them parked, each of
@@ -72,22 +75,19 @@ pub fn carry_on(
     ensures { RanOn deck.now pending parked terms bars.now budget (slices answers.old store.old scratch.old) (result_of result) (slices answers.new store.new scratch.new) }
 {
     let mut table = [0; 4096];
+    let mut index = Index::blank();
     let counts = OpenCounts {
         pending,
         parked,
         terms,
     };
-    let open = carried(deck, counts, store, scratch.len(), &mut table)?;
-    let mut index = Index::blank();
-    index.fill(&open.deck);
-    let clauses = Clauses::new(open.deck, &index);
-    rights::check_goals(&clauses, &store[..open.end], bars)?;
+    let open = carried(deck, counts, bars, store, scratch, &mut table, &mut index)?;
     let start = resume(open.held, open.end, budget, store);
-    Ok(from_goals(&clauses, start, answers, store, scratch))
+    Ok(from_goals(&open.clauses, start, answers, store, scratch))
 }
 
 // The goals as a run holds them, to start from.
-pub fn resume(held: usize, end: usize, budget: u32, store: &mut [u16]) -> Start
+pub(crate) fn resume(held: usize, end: usize, budget: u32, store: &mut [u16]) -> Start
     requires { (held ≤ end) × (end ≤ length store.old) }
     ensures { Resumed store.old held end budget store.new result }
 {

@@ -62,21 +62,18 @@ pub fn press(
     ensures { PressedOn deck.now pending parked terms bars.now budget (slices answers.old store.old scratch.old) (pressed_of result) (slices answers.new store.new scratch.new) }
 {
     let mut table = [0; 4096];
+    let mut index = Index::blank();
     let counts = OpenCounts {
         pending,
         parked,
         terms,
     };
-    let open = carried(deck, counts, store, scratch.len(), &mut table)?;
-    let mut index = Index::blank();
-    index.fill(&open.deck);
-    let clauses = Clauses::new(open.deck, &index);
-    rights::check_goals(&clauses, &store[..open.end], bars)?;
+    let open = carried(deck, counts, bars, store, scratch, &mut table, &mut index)?;
     if pending == 0 {
         return Ok(finished(parked as u32));
     }
     let start = resume(open.held, open.end, budget, store);
-    Ok(step_from_goals(&clauses, start, answers, store, scratch))
+    Ok(step_from_goals(&open.clauses, start, answers, store, scratch))
 }
 
 // The display's record: the counts over all presses so far, and how many goals are pending and parked.

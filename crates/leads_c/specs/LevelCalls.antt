@@ -11,11 +11,11 @@ circular_number None = 0
 circular_number (Some p) = suc p
 
 -- A refusal returns its number and leaves the number as it was; else 0 is returned.
-abbrev pub TellsLevels : Result (Option ℕ) Refusal → ℕ → ℕ → ℕ → Type 0
-TellsLevels (Err why) before r after = (r ≡ refusal_number (refusal_for why)) × (after ≡ before)
-TellsLevels (Ok named) before r after = (r ≡ 0) × (after ≡ circular_number named)
+abbrev pub TellsLevelNumber : Result (Option ℕ) Refusal → ℕ → ℕ → ℕ → Type 0
+TellsLevelNumber (Err why) before r after = (r ≡ refusal_number (refusal_for why)) × (after ≡ before)
+TellsLevelNumber (Ok named) before r after = (r ≡ 0) × (after ≡ circular_number named)
 
 pub record LevelsCalled (deck list : List ℕ) (before r : ℕ) (list_after : List ℕ) (after : ℕ) : Type 0 where
   pub result : Result (Option ℕ) Refusal
   pub answers : Answers deck result list list_after
-  pub tells : TellsLevels result before r after
+  pub tells : TellsLevelNumber result before r after

@@ -17,7 +17,7 @@ use Rattle.text.proofs.NumberLaws.{Names, Distinct, last_none, declared-once, de
 use Rattle.naming.specs.declared.declarations.Declaration.{Declaration}
 use Rattle.naming.specs.declared.windows.First.{First}
 use Rattle.naming.specs.Walks.{declaration_of, Declares, Ends, Passed}
-use Rattle.naming.specs.Windows.{name_in, name_of, Again, Ended, Known, Kept}
+use Rattle.naming.specs.Windows.{name_in, name_of, Again, WindowEnds, Known, Kept}
 use Rattle.naming.proofs.WalkLaws.{twice-later, twice-here, passed-this, passed-one, passed-all}
 use Rattle.naming.proofs.FindLaws.{is_below, names_of}
 
@@ -83,7 +83,7 @@ module _ (ds : List rules.Declaration) (c : ℕ) (below : c ≤ length ds) (D : 
       (λ j x m r. let t : 0 + j ≡ j = omega arith in ap (is_number (number_of x.name 0 ds)) t ∙ own-number j x m r)
 
 -- What is known.
-ended-below : (text : List ℕ) (c : ℕ) (p : Code ℕ) → Ended text c p → c ≤ length (text_declarations text)
+ended-below : (text : List ℕ) (c : ℕ) (p : Code ℕ) → WindowEnds text c p → c ≤ length (text_declarations text)
 ended-below text c (Some at) a = omega (arith, is_below (text_declarations text) c a.this a.there)
 ended-below text c None e = omega arith
 
@@ -102,13 +102,13 @@ module _ (text : List ℕ) (n : ℕ) (f : First) (K : Known text n f) where
       differ : Distinct (name_of (text_declarations text)) f.number
       differ i j p q = K.distinct i j (omega arith) p q
 
-      go : (p : Code ℕ) → Ended text f.number p → place_of text (declared_twice (text_declarations text) 0 (text_declarations text)) ≡ option_of p
+      go : (p : Code ℕ) → WindowEnds text f.number p → place_of text (declared_twice (text_declarations text) 0 (text_declarations text)) ≡ option_of p
       go (Some at) a =
           ap (place_of text) (first-again (text_declarations text) f.number known-below differ a.earlier a.this a.less a.same a.there)
           ∙ a.place
       go None e = ap (place_of text) (none-again (text_declarations text) f.number known-below differ e)
 
-pub none-known : (text : List ℕ) (f : First) → Ended text f.number f.place → Known text 0 f
+pub none-known : (text : List ℕ) (f : First) → WindowEnds text f.number f.place → Known text 0 f
 none-known text f e = record { distinct = λ i j p. absurd (omega arith); ended = e }
 
 -- The pass over the declarations from number `number` on: those up to n are passed, the first 4,096 of them in the table.
@@ -152,7 +152,7 @@ module _ {V : Type 0} (t : Table V) (number last at n : ℕ) (P : Passing t numb
 
   -- Up to a declaration that is passed.
   pub passing-known :
-      (f g : First) → Known t.text number f → g.number ≤ f.number → g.number ≤ n → Ended t.text g.number g.place → Known t.text (number + 4096) g
+      (f g : First) → Known t.text number f → g.number ≤ f.number → g.number ≤ n → WindowEnds t.text g.number g.place → Known t.text (number + 4096) g
   passing-known f g K a b e = record { distinct = λ i j p q r. go i j p q r (dec_lt i number); ended = e }
     where
       go : (i j : ℕ) → i < number + 4096 → i < j → j < g.number → Dec (i < number) → name_of ds i ≡ name_of ds j → ⊥

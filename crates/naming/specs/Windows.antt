@@ -26,14 +26,14 @@ pub record Again (text : List ℕ) (c at : ℕ) : Type 0 where
   pub there : get_elem? (text_declarations text) c ≡ some this
   pub place : place_of text (some this.left) ≡ some at
 
-abbrev pub Ended : List ℕ → ℕ → Option ℕ → Type 0
-Ended text c (Some at) = Again text c at
-Ended text c None = length (text_declarations text) ≡ c
+abbrev pub WindowEnds : List ℕ → ℕ → Option ℕ → Type 0
+WindowEnds text c (Some at) = Again text c at
+WindowEnds text c None = length (text_declarations text) ≡ c
 
 -- The first declaration that is known to have an earlier one's name, or the end; before it none has the name of one of the first n.
 pub record Known (text : List ℕ) (n : ℕ) (f : First) : Type 0 where
   pub distinct : (i j : ℕ) → i < n → i < j → j < f.number → name_of (text_declarations text) i ≡ name_of (text_declarations text) j → ⊥
-  pub ended : Ended text f.number f.place
+  pub ended : WindowEnds text f.number f.place
 
 -- One name more in the table, as long as there are fewer than 4,096.
 pub record Kept {V : Type 0} (t : Table V) (e : Entry V) (t' : Table V) : Type 0 where

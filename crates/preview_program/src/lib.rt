@@ -10,11 +10,10 @@ ghost use Rattle.program_parts.specs.Answers.{Prints};
 use carry_program::bars::bars_of;
 use deck::Refusal;
 use deck::opened::Opened;
-use listing::output::Output;
 use program::BUDGET;
 use program::input::{opened_deck, query_words};
 use program::lists::Lists;
-use program_parts::{are_words, or_refusal, words_of};
+use program_parts::{are_words, or_refusal, put_run, words_of};
 
 // What the program prints, at the start of `out`, whose other bytes stay; the result is how many bytes. A listing has at most 69 bytes in its first two lines,
 // and 8 for each word of the answer list.
@@ -99,7 +98,5 @@ fn listed(
         &mut lists.store,
         &mut lists.scratch,
     )?;
-    let mut out = Output::new(out);
-    out.put_listing(report, &lists.answers, opened.symbols());
-    Ok(out.at)
+    Ok(put_run(report, &lists.answers, opened.symbols(), out))
 }

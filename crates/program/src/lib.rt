@@ -11,9 +11,8 @@ use bars::nothing_barred;
 use deck::Refusal;
 use deck::opened::Opened;
 use input::{opened_deck, query_words};
-use listing::output::Output;
 use lists::Lists;
-use program_parts::or_refusal;
+use program_parts::{or_refusal, put_run};
 
 pub mod bars;
 pub mod input;
@@ -60,7 +59,5 @@ fn listed(deck: &[u16], query: &[u16], out: &mut [u8; 65605]) -> Result<usize, R
         &mut lists.store,
         &mut lists.scratch,
     )?;
-    let mut out = Output::new(out);
-    out.put_listing(report, &lists.answers, opened.symbols());
-    Ok(out.at)
+    Ok(put_run(report, &lists.answers, opened.symbols(), out))
 }

@@ -1,17 +1,20 @@
-// What the programs as functions on bytes share: the words of their inputs, and the line that is printed in place of a result.
+// What the programs as functions on bytes share: the words of their inputs, and what is printed of a run, or in place of a result.
 #![tactic(auto)]
 
 ghost use Rattle.std.specs.Prelude.{◌≡◌, ◌*◌, ◌≤◌, ◌&&◌, leb, length};
 ghost use Rattle.rules.specs.Program.{even, words_from, deck_file};
 ghost use Rattle.rules.specs.Listing.{listing};
-ghost use Rattle.rules.specs.Refusals.{refused};
+ghost use Rattle.rules.specs.Evaluation.{Outcome};
+ghost use Rattle.rules.specs.Refusals.{refused, accepted};
 ghost use Rattle.deck.specs.Answers.{refusal_for};
 ghost use Rattle.listing.specs.Printed.{file_of, Printed};
+ghost use Rattle.listing.specs.Shown.{Shown};
 ghost use Rattle.program_parts.specs.Answers.{ComesTo, Prints, PrintsOrRefuses};
 
 use deck::Refusal;
 use listing::input::{deck_fits, read_words};
 use listing::output::Output;
+use report::Report;
 
 // The bytes are words, and so many at least and at most.
 pub fn are_words(bytes: &[u8], least: usize, most: usize) -> bool
@@ -52,6 +55,21 @@ pub fn put_line(out: &mut [u8], why: Refusal) -> usize
 {
     let mut out = Output::new(out);
     out.put_refusal(why);
+    out.at
+}
+
+// Prints the listing of an accepted run. Returns the number of bytes.
+pub fn put_run(
+    report: Report,
+    answers: &[u16; 8192],
+    symbols: &[u16],
+    out: &mut [u8; 65605],
+) -> usize
+    requires { (o : Outcome) × Shown o report answers.now symbols.now }
+    ensures { (o : Outcome) → Shown o report answers.now symbols.now → Printed (listing (accepted o)) out.old result out.new }
+{
+    let mut out = Output::new(out);
+    out.put_listing(report, answers, symbols);
     out.at
 }
 

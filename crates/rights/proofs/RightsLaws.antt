@@ -2,9 +2,9 @@
 use Prim.Native.Nat.{ℕ, ◌<◌}
 use mathlib.Core.Path.{◌≡◌, refl, ap, sym, ◌∙◌, subst}
 use mathlib.Core.Logic.{inl, inr}
-use mathlib.Core.Bool.{Bool, true, false, ◌||◌, false≢true}
+use mathlib.Core.Bool.{Bool, true, false}
 use mathlib.Core.List.Memᴰ
-use mathlib.Core.List.{List, [], ◌∷◌, Memᴰ}
+use mathlib.Core.List.{List, [], ◌∷◌}
 use native.Mathlib.Omega.{arith}
 use lib.ListN.{length}
 use Rattle.rules.specs.Syntax.{Symbol, Literal, Deck}
@@ -12,10 +12,10 @@ use Rattle.rules.specs.Refusals.{accepted, and_then, require, checked_number}
 use Rattle.rules.specs.Decks.{symbol_words, open_deck, read_query}
 use Rattle.rules.specs.Goals.{Marked, unmarked, first_goal, goal_cells, appearing}
 use Rattle.rules.specs.WellFormed.{All, WfMarked}
-use Rattle.rules.specs.Rights.{predicates, literals_of, bars_fit, barred, any_barred, reached, check_rights}
-use Rattle.rules.proofs.NumberingLaws.{In, or_cases, or_later_lem, appearing-only}
+use Rattle.rules.specs.Rights.{predicates, literals_of, bars_fit, any_barred, reached, check_rights}
+use Rattle.rules.proofs.NumberingLaws.{In, appearing-only}
 use Rattle.rules.proofs.DeckLaws.{query-reads}
-use Rattle.rules.proofs.Reach.{reached-is}
+use Rattle.rules.proofs.Reach.{reached-is, any_some, some-any}
 use Rattle.rules.proofs.ClosedSites.{first-starts}
 use Rattle.deck.specs.Kinds.{symbols_of}
 use Rattle.deck.proofs.OpenLaws.{accepted-symbols}
@@ -26,27 +26,14 @@ use Rattle.rights.proofs.BarLaws.{symbols-many}
 use Rattle.rights.proofs.ReachedLaws.{predicates-join}
 
 -- Whether one of them is barred depends on which they are alone.
-any_some : (bars ps : List ℕ) → any_barred bars ps ≡ true → (p : ℕ) × In p ps × (barred bars p ≡ true)
-unfolding any_barred
-any_some bars [] e = absurd (false≢true e)
-any_some bars (p ∷ ps) e = elim (or_cases (barred bars p) (any_barred bars ps) e) [
-  | inl h ↦ (p, Memᴰ.head refl, h)
-  | inr h ↦ let r = any_some bars ps h in (r.0, Memᴰ.tail r.1, r.2)
-]
-
-some_any : (bars : List ℕ) {p : ℕ} {ps : List ℕ} → In p ps → barred bars p ≡ true → any_barred bars ps ≡ true
-unfolding any_barred
-some_any bars (Memᴰ.head {x = q} {xs = ps} e) h = ap (λ b. b || any_barred bars ps) (ap (barred bars) (sym e) ∙ h)
-some_any bars (Memᴰ.tail {x = q} {xs = ps} i) h = or_later_lem (barred bars q) (any_barred bars ps) (some_any bars i h)
-
 same-any : (bars ps qs : List ℕ) → ((p : ℕ) → In p ps → In p qs) → ((p : ℕ) → In p qs → In p ps) → any_barred bars ps ≡ any_barred bars qs
 same-any bars ps qs f g = go (any_barred bars ps) (any_barred bars qs) refl refl
   where
     go : (b c : Bool) → any_barred bars ps ≡ b → any_barred bars qs ≡ c → b ≡ c
     go true true e h = refl
     go false false e h = refl
-    go true false e h = let r = any_some bars ps e in sym (some_any bars (f r.0 r.1) r.2) ∙ h
-    go false true e h = let r = any_some bars qs h in sym e ∙ some_any bars (g r.0 r.1) r.2
+    go true false e h = let r = any_some bars ps e in sym (some-any bars (f r.0 r.1) r.2) ∙ h
+    go false true e h = let r = any_some bars qs h in sym e ∙ some-any bars (g r.0 r.1) r.2
 
 pub barred-found : (d : Deck) (starts : List Literal) (bars list : List ℕ) → AllReached d.clauses starts list → any_barred bars list ≡ any_barred bars (reached d.clauses starts)
 barred-found d starts bars list a =

@@ -21,7 +21,7 @@ use Rattle.rules.specs.Run.{run_from, check_sizes, Carried, carry, carry_on, car
 use Rattle.rules.specs.WellFormed.{All, WfGoal, WfMarked}
 use Rattle.rules.specs.Meaning.{Inds, Interpretation, Satisfies, SomeCovers}
 use Rattle.rules.specs.ThreeValues.{◌⊑◌, Interpretation3, Satisfies3, goal_value, goals_value, ExcludedMiddle}
-use Rattle.rules.specs.Demand.{Covered, Valued, Known, Said, Demand3, CoveredFrom, ValuedFrom, KnownFrom, SaidOn, DemandOn}
+use Rattle.rules.specs.Demand.{Read, Covered, Valued, Known, Said, Demand3, CoveredFrom, ValuedFrom, KnownFrom, SaidOn, DemandOn}
 use Rattle.rules.proofs.Existence.{some-behind}
 use Rattle.rules.proofs.ListLaws.{all_append, all_split, all-weaken}
 use Rattle.rules.proofs.DeckLaws.{opened-written, query-reads}
@@ -143,26 +143,34 @@ module _ (deck_words : List ℕ) (pending parked terms budget : ℕ) (entry exit
   before-reads : OpenReads deck.symbols pending parked terms entry.store a.goals
   before-reads = open-reads deck.symbols pending parked terms entry.store a.goals a.carries
 
-  -- The statement, with the goals that the store began with in place of the query.
-  pub says_of : (Statement : Deck → List Marked → List Marked → Type 1) → Always Statement → SaidOn Statement deck_words pending parked terms entry (report o) exit
-  says_of Statement always =
+  left-reads : Read deck (report o) exit (unmarked o.answers) (unmarked o.pending ++ o.parked)
+  left-reads =
       let gs : List Goal = a.goals.pending in
       let ms : List Marked = a.goals.parked in
       let kept = evaluate-keeps deck (opened-written deck_words deck a.opens).1 (length entry.answers) (length entry.store) gs ms budget
       (all-weaken (Fits deck.symbols terms) (WfGoal deck.symbols) (λ g h. h.wf) gs before-reads.pending)
       (all-weaken (ParkedFits deck.symbols terms) (WfMarked deck.symbols) (λ m h. h.1.wf) ms before-reads.parked) in
-      record {
-        deck = deck;
-        before = a.goals;
-        listed = unmarked o.answers;
-        left_open = unmarked o.pending ++ o.parked;
-        opens = a.opens;
-        carries = a.carries;
-        reads = left-read deck o entry exit (subst (OutcomeHas (WellFormed deck.symbols)) (sym a.evaluates) kept)
-            (subst (λ (x : Outcome). All Bare x.answers) (sym a.evaluates) (answers-bare deck (length entry.answers) (length entry.store) gs ms budget)) left;
-        covered = subst (λ (x : Outcome). Statement deck (unmarked gs ++ ms) (remaining x)) (sym a.evaluates)
-            (always deck (length entry.answers) (length entry.store) gs ms budget);
-      }
+      left-read deck o entry exit (subst (OutcomeHas (WellFormed deck.symbols)) (sym a.evaluates) kept)
+      (subst (λ (x : Outcome). All Bare x.answers) (sym a.evaluates) (answers-bare deck (length entry.answers) (length entry.store) gs ms budget)) left
+
+  -- The answers are read at the start of the answer list.
+  pub left-lists : read_goals deck.symbols (length o.answers) exit.answers ≡ some (unmarked o.answers)
+  unfolding report
+  left-lists = left-reads.answers
+
+  -- The statement, with the goals that the store began with in place of the query.
+  pub says_of : (Statement : Deck → List Marked → List Marked → Type 1) → Always Statement → SaidOn Statement deck_words pending parked terms entry (report o) exit
+  says_of Statement always = record {
+    deck = deck;
+    before = a.goals;
+    listed = unmarked o.answers;
+    left_open = unmarked o.pending ++ o.parked;
+    opens = a.opens;
+    carries = a.carries;
+    reads = left-reads;
+    covered = subst (λ (x : Outcome). Statement deck (unmarked a.goals.pending ++ a.goals.parked) (remaining x)) (sym a.evaluates)
+        (always deck (length entry.answers) (length entry.store) a.goals.pending a.goals.parked budget);
+  }
 
   fits-of : All (Fits deck.symbols terms) o.pending × All (ParkedFits deck.symbols terms) o.parked
   fits-of = subst (λ (x : Outcome). All (Fits deck.symbols terms) x.pending × All (ParkedFits deck.symbols terms) x.parked) (sym a.evaluates)

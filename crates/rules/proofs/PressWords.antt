@@ -1,29 +1,29 @@
 -- Presses about the words in the slices (document 02, U14): what a press leaves is what a run with the press's cost for its budget leaves, so the
 -- cover statement holds of it, and the next press or run is let carry on with the display's counts; and presses one after another.
-use Prim.Native.Nat.{ℕ, ◌≤◌}
+use Prim.Native.Nat.{ℕ, ◌+◌, ◌≤◌}
 use mathlib.Core.Path.{◌≡◌, refl, sym, ◌∙◌, ap, ap₂, subst}
 use mathlib.Core.Bool.{true}
 use mathlib.Core.Option.{some}
-use mathlib.Core.List.{List, [], ◌∷◌, ◌++◌}
+use mathlib.Core.List.{List, [], ◌∷◌, ◌++◌, append-nil, append_assoc}
 use native.Mathlib.Omega.{arith}
 use lib.ListN.{length, take, drop}
-use Rattle.rules.specs.Syntax.{Symbol, Deck}
+use Rattle.rules.specs.Syntax.{Symbol, Deck, Goal}
 use Rattle.rules.specs.Refusals.{Checked, refused, accepted}
 use Rattle.rules.specs.Decks.{open_deck}
-use Rattle.rules.specs.Goals.{unmarked, write_goals}
+use Rattle.rules.specs.Goals.{unmarked, write_goals, read_goals}
 use Rattle.rules.specs.Stored.{OpenGoals, read_open}
 use Rattle.rules.specs.Loose.{tight_clauses}
 use Rattle.rules.specs.Rights.{check_rights}
 use Rattle.rules.specs.Evaluation.{finished, Level, Outcome, evaluate}
 use Rattle.rules.specs.Run.{carry, Report, report, answers_after, store_start, Slices, Filled}
-use Rattle.rules.specs.Press.{Advance, prevented, Pressed, press, press_once, press_from, Counted, counted, counts, left_by, PressFilled, PressLeaves, PressedOn, Display, displayed, display_after, advanced, press_with, PressedWith}
+use Rattle.rules.specs.Press.{Advance, prevented, Pressed, press, press_once, press_from, Counted, counted, counts, left_by, PressFilled, PressLeaves, PressedOn, Display, capped, displayed, display_after, advanced, press_with, PressedWith}
 use Rattle.rules.specs.ThreeValues.{ExcludedMiddle}
 use Rattle.rules.specs.Demand.{CoveredFrom, ValuedFrom, KnownFrom, SaidOn, DemandOn}
 use Rattle.rules.proofs.LevelSound.{level}
 use Rattle.rules.proofs.PressLaws.{press-prevented, press-steps, press-cost, press-lists, finished-display}
 use Rattle.rules.proofs.Continued.{Lent, goals_of}
 use Rattle.rules.proofs.Demand3.{passed}
-use Rattle.rules.proofs.Carried.{AcceptedOn, carry-parts, CarriesOn, covered-always, valued-always, known-always, says_of, left-opens, carries-of, same_read}
+use Rattle.rules.proofs.Carried.{AcceptedOn, carry-parts, CarriesOn, covered-always, valued-always, known-always, says_of, left-lists, left-opens, carries-of, same_read}
 use Rattle.rules.proofs.StoredLaws.{open-reads}
 use Rattle.rules.proofs.MemberRuns.{LetOn, let-on}
 use Rattle.rules.proofs.PressList.{press_on, after_press, press_all, steps_taken, cost_taken, displays}
@@ -67,16 +67,21 @@ pub record PressCarries (deck_words : List ℕ) (terms : ℕ) (bars : List ℕ) 
   pub numbers : Report
   pub pending : numbers.pending ≡ d'.pending
   pub parked : numbers.parked ≡ d'.parked
+  pub answers : d'.answers ≡ capped (d.answers + numbers.answers)
   pub demand : DemandOn deck_words d.pending d.parked terms entry numbers exit
   pub valued : ExcludedMiddle → SaidOn ValuedFrom deck_words d.pending d.parked terms entry numbers exit
   pub known : SaidOn KnownFrom deck_words d.pending d.parked terms entry numbers exit
   pub carries : CarriesOn deck_words terms numbers exit
   pub let_on : LetOn deck_words bars terms numbers exit
 
--- What a press does, over the deck that opened and the goals that were read: the store begins with the goals after it, and the display shows it.
+-- What a press does, over the deck that opened and the goals that were read: its answer list begins with the answer that it found, if there is one, the store
+-- with the goals after it, and the display shows it.
 pub record PressDoes (deck : Deck) (terms budget : ℕ) (entry : Slices) (d : Display) (g : OpenGoals) (advance : Advance) (exit : Slices) (d' : Display) : Type 0 where
   pub returns : (press deck (length entry.answers) (length entry.store) g.pending g.parked budget).advance ≡ advance
   pub display : d' ≡ displayed d (counted (press deck (length entry.answers) (length entry.store) g.pending g.parked budget))
+  pub lists :
+      let p = press deck (length entry.answers) (length entry.store) g.pending g.parked budget in
+      read_goals deck.symbols (length p.answers) exit.answers ≡ some (unmarked p.answers)
   pub opens :
       let p = press deck (length entry.answers) (length entry.store) g.pending g.parked budget in
       read_open deck.symbols d'.pending d'.parked terms exit.store ≡ some (record { pending = p.pending; parked = p.parked })
@@ -113,12 +118,17 @@ module _ (deck_words : List ℕ) (terms : ℕ) (bars : List ℕ) (budget : ℕ) 
   unfolding displayed counted
   parked-count = ap length (leaves.parked ∙ ap (λ (x : Pressed). x.parked) a.presses) ∙ ap (λ (x : Display). x.parked) (sym display)
 
+  answer-count : d'.answers ≡ capped (d.answers + length o.answers)
+  unfolding displayed counted
+  answer-count = ap (λ (x : Display). x.answers) display ∙ ap (λ gs. capped (d.answers + length gs)) (sym (leaves.answers ∙ ap (λ (x : Pressed). x.answers) a.presses))
+
   carries-all : PressCarries deck_words terms bars entry d exit d'
   unfolding report
   carries-all = record {
     numbers = report o;
     pending = pending-count;
     parked = parked-count;
+    answers = answer-count;
     demand = says_of deck_words d.pending d.parked terms (cost_taken done) entry exit o ran-as filled CoveredFrom covered-always;
     valued = λ em. says_of deck_words d.pending d.parked terms (cost_taken done) entry exit o ran-as filled ValuedFrom (valued-always em);
     known = says_of deck_words d.pending d.parked terms (cost_taken done) entry exit o ran-as filled KnownFrom known-always;
@@ -133,6 +143,8 @@ module _ (deck_words : List ℕ) (terms : ℕ) (bars : List ℕ) (budget : ℕ) 
   does = record {
     returns = ap (λ (x : Pressed). x.advance) a.presses;
     display = display ∙ ap (λ (x : Pressed). displayed d (counted x)) (sym a.presses);
+    lists = subst (λ gs. read_goals deck.symbols (length gs) exit.answers ≡ some (unmarked gs)) leaves.answers
+        (left-lists deck_words d.pending d.parked terms (cost_taken done) entry exit o ran-as filled);
     opens =
         subst (λ (l : Level). read_open deck.symbols d'.pending d'.parked terms exit.store ≡ some (record { pending = l.pending; parked = l.parked }))
         (λ i. record { pending = leaves.pending i; parked = leaves.parked i; answers = [] })
@@ -234,19 +246,42 @@ chain-shows deck_words terms k opens (presses {bs} {bars} {budget} {entry} {exit
     let later = chain-shows deck_words terms k opens rest (after_press l p) one.opens in
     record { display = later.display ∙ ap (displays k bs (after_press l p)) one.display; opens = later.opens }
 
+-- THE ANSWERS OF ALL PRESSES are those read at the start of their answer lists, one list after the other.
+unfoldable pub ChainLists : {deck_words : List ℕ} {symbols : List Symbol} {terms : ℕ} {bs : List Lent} {ws last : List ℕ} {d d' : Display}
+    → PressChain deck_words symbols terms bs ws d last d' → List Goal → Type 0
+ChainLists rests gs = gs ≡ []
+ChainLists {symbols = symbols} (presses {exit = exit} w ran rest) gs =
+    (found : List Goal) × (later : List Goal) × (gs ≡ found ++ later) × (read_goals symbols (length found) exit.answers ≡ some (unmarked found)) × ChainLists rest later
+
+pub chain-lists : (deck_words : List ℕ) (terms : ℕ) (k : Deck) → open_deck deck_words ≡ accepted k → {bs : List Lent} {ws last : List ℕ} {d d' : Display}
+    → (chain : PressChain deck_words k.symbols terms bs ws d last d') → (l : Level)
+    → read_open k.symbols d.pending d.parked terms ws ≡ some (record { pending = l.pending; parked = l.parked })
+    → (gs : List Goal) × ((press_all k bs l).answers ≡ l.answers ++ gs) × ChainLists chain gs
+unfolding press_all ChainLists
+chain-lists deck_words terms k opens rests l reads = ([], sym (append-nil l.answers), refl)
+chain-lists deck_words terms k opens (presses {bs} {bars} {budget} {entry} {exit} {d} {d'} {d''} {advance} {ws} {last} w ran rest) l reads =
+    let b : Lent = record { budget = budget; answer_room = length entry.answers; store_size = length entry.store } in
+    let p : Pressed = press_on k b l in
+    let one = press-does deck_words terms bars budget entry exit d d' advance ran k opens (record { pending = l.pending; parked = l.parked }) (w ∙ reads) in
+    let more = chain-lists deck_words terms k opens rest (after_press l p) one.opens in
+    (p.answers ++ more.0, more.1 ∙ append_assoc l.answers p.answers more.0, (p.answers, more.0, refl, one.lists, more.2))
+
 -- BETWEEN ANY TWO PRESSES, or from goals filled in by hand: of the goals that the store begins with before the one, and the answers and goals after the other,
 -- the cover statement holds, in two values and in three.
-pub record ChainCovers (deck : Deck) (terms : ℕ) (g : OpenGoals) (after : Level) (last : List ℕ) (d : Display) : Type 1 where
-  pub opens : read_open deck.symbols d.pending d.parked terms last ≡ some (record { pending = after.pending; parked = after.parked })
+pub record ChainCovers (deck : Deck) (g : OpenGoals) (after : Level) {deck_words : List ℕ} {terms : ℕ} {bs : List Lent} {ws last : List ℕ} {d d' : Display}
+    (chain : PressChain deck_words deck.symbols terms bs ws d last d') : Type 1 where
+  pub opens : read_open deck.symbols d'.pending d'.parked terms last ≡ some (record { pending = after.pending; parked = after.parked })
+  pub listed : ChainLists chain after.answers
   pub covered : CoveredFrom deck (unmarked g.pending ++ g.parked) (goals_of after)
   pub valued : ExcludedMiddle → ValuedFrom deck (unmarked g.pending ++ g.parked) (goals_of after)
   pub known : KnownFrom deck (unmarked g.pending ++ g.parked) (goals_of after)
 
 pub chain-covers : (deck_words : List ℕ) (terms : ℕ) (k : Deck) → open_deck deck_words ≡ accepted k → {bs : List Lent} {ws last : List ℕ} {d d' : Display}
-    → PressChain deck_words k.symbols terms bs ws d last d' → (g : OpenGoals) → read_open k.symbols d.pending d.parked terms ws ≡ some g
-    → ChainCovers k terms g (press_all k bs (level g.pending g.parked [])) last d'
+    → (chain : PressChain deck_words k.symbols terms bs ws d last d') → (g : OpenGoals) → read_open k.symbols d.pending d.parked terms ws ≡ some g
+    → ChainCovers k g (press_all k bs (level g.pending g.parked [])) chain
 chain-covers deck_words terms k opens {bs} chain g reads = record {
   opens = (chain-shows deck_words terms k opens chain (level g.pending g.parked []) reads).opens;
+  listed = (let lists = chain-lists deck_words terms k opens chain (level g.pending g.parked []) reads in subst (ChainLists chain) (sym lists.1) lists.2);
   covered = λ I sat choice. presses-cover k bs g.pending g.parked I sat choice;
   valued = λ em I sat choice. presses-value em k bs g.pending g.parked I sat choice;
   known = λ I sat choice. presses-stay k bs g.pending g.parked I sat choice;

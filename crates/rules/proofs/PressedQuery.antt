@@ -26,7 +26,7 @@ use Rattle.rules.proofs.Carried.{first_fits}
 use Rattle.rules.proofs.MemberRuns.{left-reads}
 use Rattle.rules.proofs.PressList.{press_all, taken, taken_cost, rooms, steps_of, cost_of_all}
 use Rattle.rules.proofs.Presses.{ComesTo, budget-0, presses-leave, query-pressed, Shows, displays-show}
-use Rattle.rules.proofs.PressWords.{PressChain, ChainShows, chain-shows}
+use Rattle.rules.proofs.PressWords.{PressChain, ChainShows, chain-shows, ChainLists, chain-lists}
 
 -- The record that a run returns.
 abbrev pub display_from : Report → Display
@@ -82,11 +82,14 @@ first-record deck_words query_words bars entry exit r ran = go (run_on deck_word
         let same : report o ≡ r = cc in
         subst (λ (x : Report). FirstRecord deck_words query_words x exit) same (first-left deck_words query_words bars entry exit o a left)
 
--- AFTER THE PRESSES the store begins with the goals of `after`. They are the evaluation's, and so are the answers of all presses together, with the cost of
+-- AFTER THE PRESSES the store begins with the goals of `after`, and its answers are those at the starts of the presses' answer lists. They are the
+-- evaluation's goals, and its answers, with the cost of
 -- the presses that were not cut short for its budget; it takes their steps. The record's counts are the sums over all presses up to the greatest value,
 -- and pending and parked count the goals. And the query is covered. Between any two presses it is `presses-cover`, from the goals after the first.
-pub record QueryPressed (deck : Deck) (query : List Literal) (bs : List Lent) (last : List ℕ) (d : Display) : Type 1 where
+pub record QueryPressed (deck : Deck) (query : List Literal) {deck_words : List ℕ} {bs : List Lent} {first last : List ℕ} {shown d : Display}
+    (chain : PressChain deck_words deck.symbols (length (query_variables query)) bs first shown last d) : Type 1 where
   pub after : Level
+  pub listed : ChainLists chain after.answers
   pub reads : read_open deck.symbols d.pending d.parked (length (query_variables query)) last ≡ some (record { pending = after.pending; parked = after.parked })
   pub evaluated : (room store_size : ℕ) → All (λ b. b.store_size ≤ store_size) bs → rooms bs ≤ room
       → let start = level (first_goal query ∷ []) [] [] in
@@ -97,15 +100,17 @@ pub record QueryPressed (deck : Deck) (query : List Literal) (bs : List Lent) (l
 
 pub query-presses : (deck_words query_words bars : List ℕ) (entry exit : Slices) (r : Report) (ran : Ran deck_words query_words bars 0 entry (accepted r) exit)
     → let f = first-record deck_words query_words bars entry exit r ran in
-    (bs : List Lent) (last : List ℕ) (d : Display) → PressChain deck_words f.deck.symbols (length (query_variables f.query)) bs exit.store (display_from r) last d
-    → QueryPressed f.deck f.query bs last d
+    (bs : List Lent) (last : List ℕ) (d : Display) (chain : PressChain deck_words f.deck.symbols (length (query_variables f.query)) bs exit.store (display_from r) last d)
+    → QueryPressed f.deck f.query chain
 query-presses deck_words query_words bars entry exit r ran bs last d chain =
     let f = first-record deck_words query_words bars entry exit r ran in
     let start : Level = level (first_goal f.query ∷ []) [] [] in
     let c : ChainShows f.deck (length (query_variables f.query)) bs (display_from r) start last d =
     chain-shows deck_words (length (query_variables f.query)) f.deck f.opens chain start f.reads in
+    let lists = chain-lists deck_words (length (query_variables f.query)) f.deck f.opens chain start f.reads in
     record {
       after = press_all f.deck bs start;
+      listed = subst (ChainLists chain) (sym lists.1) lists.2;
       reads = c.opens;
       evaluated = λ room store_size w h. presses-leave f.deck room store_size bs w h (first_goal f.query ∷ []) [];
       shows = subst (λ (x : Display). Shows x (steps_of f.deck bs start) (cost_of_all f.deck bs start) (press_all f.deck bs start)) (sym c.display)

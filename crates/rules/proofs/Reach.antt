@@ -179,7 +179,7 @@ pub record ReachesBarred (passed : ℕ → Type 0) (clauses : List Clause) (bars
   pub reaches : ReachesBy passed clauses starts predicate
   pub is_barred : barred bars predicate ≡ true
 
-any_some : (bars ps : List ℕ) → any_barred bars ps ≡ true → (p : ℕ) × In p ps × (barred bars p ≡ true)
+pub any_some : (bars ps : List ℕ) → any_barred bars ps ≡ true → (p : ℕ) × In p ps × (barred bars p ≡ true)
 unfolding any_barred
 any_some bars [] e = absurd (false≢true e)
 any_some bars (p ∷ ps) e = elim (or_cases (barred bars p) (any_barred bars ps) e) [
@@ -187,7 +187,7 @@ any_some bars (p ∷ ps) e = elim (or_cases (barred bars p) (any_barred bars ps)
   | inr h ↦ let r = any_some bars ps h in (r.0, Memᴰ.tail r.1, r.2)
 ]
 
-some-any : (bars : List ℕ) {p : ℕ} {ps : List ℕ} → In p ps → barred bars p ≡ true → any_barred bars ps ≡ true
+pub some-any : (bars : List ℕ) {p : ℕ} {ps : List ℕ} → In p ps → barred bars p ≡ true → any_barred bars ps ≡ true
 unfolding any_barred
 some-any bars (Memᴰ.head {x = q} {xs = ps} e) h = ap (λ b. b || any_barred bars ps) (ap (barred bars) (sym e) ∙ h)
 some-any bars (Memᴰ.tail {x = q} {xs = ps} i) h = or_later_lem (barred bars q) (any_barred bars ps) (some-any bars i h)

@@ -81,7 +81,7 @@ query_variables query = appearing [] (vars_literals query)
 unfoldable pub first_goal : List Literal → Goal
 first_goal query = record { answer_terms = variables (query_variables query); literals = query }
 
--- Reading goals is the inverse of writing them. It asks neither for the numbering nor for at most 1,024 words.
+-- Reading goals is the inverse of writing them, up to 4,095 words: a length is read modulo 4,096. It asks neither for the numbering nor for at most 1,024 words.
 unfoldable pub read_mark : ℕ → Option Mark
 read_mark zero = some pending
 read_mark (suc zero) = some floundered

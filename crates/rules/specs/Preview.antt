@@ -20,18 +20,18 @@ open_copy ws cells = do
 
 -- The preview equals opening a lengthened copy and running there.
 unfoldable pub preview : List ℕ → List ℕ → List ℕ → List ℕ → ℕ → ℕ → ℕ → ℕ → Checked Outcome
-preview deck_words clause_words query_words bars budget answer_room store_size scratch_size = do
+preview deck_words added_cells query_words bars budget answer_room store_size scratch_size = do
   _ ← open_deck deck_words
-  run (lengthened deck_words clause_words) query_words bars budget answer_room store_size scratch_size
+  run (lengthened deck_words added_cells) query_words bars budget answer_room store_size scratch_size
 
 unfoldable pub preview_on : List ℕ → List ℕ → List ℕ → List ℕ → ℕ → Slices → Checked Outcome
-preview_on deck_words clause_words query_words bars budget s =
-    preview deck_words clause_words query_words bars budget (length s.answers) (length s.store) (length s.scratch)
+preview_on deck_words added_cells query_words bars budget s =
+    preview deck_words added_cells query_words bars budget (length s.answers) (length s.store) (length s.scratch)
 
 -- All that the call promises: what it returns, and what it leaves in each slice.
 abbrev pub Previewed : List ℕ → List ℕ → List ℕ → List ℕ → ℕ → Slices → Checked Report → Slices → Type 0
-Previewed deck_words clause_words query_words bars budget entry result exit =
-    Gives (preview_on deck_words clause_words query_words bars budget entry) entry result exit
+Previewed deck_words added_cells query_words bars budget entry result exit =
+    Gives (preview_on deck_words added_cells query_words bars budget entry) entry result exit
 
 -- A deck with one clause more; and what opening the copy of a deck of so many words comes to (theorem `CopyLaws.copy-opens`): over 16,384 words,
 -- no cells, over 256 cells, not a clause.

@@ -17,9 +17,9 @@ clause_from (some bytes) = let first = take 32768 bytes in elim (even first) [ t
 
 -- As the program, with the clause at the deck's end and a member's list.
 unfoldable pub preview_words : List ℕ → List ℕ → List ℕ → Option (List ℕ) → Checked Outcome
-preview_words deck_words clause_words query_words bars = do
+preview_words deck_words added_cells query_words bars = do
   deck ← open_deck deck_words
-  preview deck_words clause_words query_words (bars_from (length deck.symbols) bars) 100000 8192 16384 8192
+  preview deck_words added_cells query_words (bars_from (length deck.symbols) bars) 100000 8192 16384 8192
 
 -- The deck and then the copy are refused before anything is said of the query.
 unfoldable pub preview_run : Option (List ℕ) → Option (List ℕ) → List ℕ → Option (List ℕ) → Checked Outcome

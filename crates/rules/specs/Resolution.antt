@@ -7,7 +7,7 @@ use Rattle.rules.specs.Goals.{goal_words, renumber}
 use Rattle.rules.specs.Unification.{Unification, fails, spent, solved, equations, applys, unify}
 
 -- Select the leftmost literal that is positive, or negative without variables. It comes with the literals before and after it.
--- Where there is none, the goal has floundered.
+-- Where there is none, the goal has no literals, or it has floundered.
 pub data Selection : Type 0 where
   nothing : Selection
   positive negative : List Literal → ℕ → Terms → List Literal → Selection

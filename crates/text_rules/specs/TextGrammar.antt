@@ -53,8 +53,8 @@ is_value t = is number t || is amount t
 pub data Part : Type 0 where
   head body : Part
 
--- Where a text stands: before an item, while there was no clause; in a declaration, after `fn` or `pr`, the name, `/`, the arity (whether numbers may be
--- declared goes along); after `nu` and its name; before an item, once there was a clause; in a clause, before a literal; after `~`; at the end.
+-- Where a text stands: before an item, while there was no clause; in a declaration, after `fn` or `pr`, the name, `/`, the arity or a number's value (whether
+-- numbers may be declared goes along); after `nu` and its name; before an item, once there was a clause; in a clause, before a literal; after `~`; at the end.
 -- In a part of a clause with so many brackets open: before a term, after a name, after a term or an atom.
 pub data State : Type 0 where
   item keyed declared slashed counted : Bool → State

@@ -1,5 +1,5 @@
 -- The preview's contract, on the program's buffers, gives what is printed.
-use Rattle.std.proofs.Common.{rules, ◌≡◌, ℕ, List, length, ap, sym, ◌∙◌, subst, arith}
+use Rattle.std.proofs.Common.{rules, ◌≡◌, ℕ, List, length, ap, sym, ◌∙◌, subst}
 use Rattle.std.proofs.lemmas.Result.{err_from_is_err_and}
 use Rattle.rules.specs.Syntax.{Deck}
 use Rattle.rules.specs.Refusals.{accepted}
@@ -14,8 +14,6 @@ use Rattle.report.specs.Reports.{report_of}
 use Rattle.listing.specs.Printed.{file_of}
 use Rattle.listing.specs.Shown.{Shown}
 use Rattle.listing.proofs.RunLaws.{run-shown}
-use Rattle.listing.proofs.PutLaws.{put_at_start}
-use Rattle.listing.proofs.PrintedLaws.{put-printed}
 use Rattle.deck.proofs.OpenLaws.{accepted-deck}
 use Rattle.deck.proofs.RefusalLaws.{number-refuses}
 use Rattle.program.proofs.PartLaws.{zeros-buffers}
@@ -69,27 +67,12 @@ returns-in_err-report c =
       search rules,
     )
 
-pub put_listing-requires-clause-room : goal.put_listing-requires-clause-room
-put_listing-requires-clause-room c =
-    let o = c.new-out.ensures in
-    (omega (arith, c.preview.auto.answers), omega (arith, o.start, ap length o.bytes, c.told-out, c.preview.auto.answers))
-
-pub put_listing-requires-clause-shown : goal.put_listing-requires-clause-shown
-put_listing-requires-clause-shown c =
-    let s = shown (goal.at.put_listing-requires-clause-shown c).In_ok-report in
+pub put_run-requires : goal.put_run-requires
+put_run-requires c =
+    let s = shown (goal.at.put_run-requires c).In_ok-report in
     (s.0, rw (c.symbols.ensures ∙ ap symbol_words c.in_ok-opened.ensures.words) s.2)
-
-pub shape_of-out : goal.shape_of-out
-shape_of-out c =
-    let s = shown (goal.at.shape_of-out c).In_ok-report in
-    let a = c.put_listing.ensures.adds s.0 (rw (c.symbols.ensures ∙ ap symbol_words c.in_ok-opened.ensures.words) s.2) in
-    search (rules, c.new-out.ensures.same_reference, a.same_reference)
 
 pub returns : goal.returns
 returns c =
     let s = shown (goal.at.returns c).In_ok-report in
-    let o = c.new-out.ensures in
-    let a = c.put_listing.ensures.adds s.0 (rw (c.symbols.ensures ∙ ap symbol_words c.in_ok-opened.ensures.words) s.2) in
-    rw s.1
-    (put-printed (put_at_start o.bytes o.start a (search rules))
-    (omega (arith, a.put.place, c.put_listing.ensures.short, o.start, c.told-out, c.preview.auto.answers)))
+    rw s.1 (c.put_run.ensures s.0 (rw (c.symbols.ensures ∙ ap symbol_words c.in_ok-opened.ensures.words) s.2))

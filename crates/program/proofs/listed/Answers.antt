@@ -1,5 +1,5 @@
 -- The run's contract, on the program's buffers, gives what is printed.
-use Rattle.std.proofs.Common.{rules, ◌≡◌, ℕ, List, length, replicate, ap, sym, ◌∙◌, subst, arith}
+use Rattle.std.proofs.Common.{rules, ◌≡◌, ℕ, List, length, replicate, ap, sym, ◌∙◌, subst}
 use Rattle.std.proofs.lemmas.Result.{err_from_is_err_and}
 use Rattle.rules.specs.Refusals.{accepted}
 use Rattle.rules.specs.Decks.{symbol_words, open_deck}
@@ -7,8 +7,6 @@ use Rattle.rules.specs.Evaluation.{Outcome}
 use Rattle.report.specs.Reports.{report_of}
 use Rattle.listing.specs.Shown.{Shown}
 use Rattle.listing.proofs.RunLaws.{run-shown}
-use Rattle.listing.proofs.PutLaws.{put_at_start}
-use Rattle.listing.proofs.PrintedLaws.{put-printed}
 use Rattle.program.specs.Runs.{words_run}
 use Rattle.rules.specs.Syntax.{Deck}
 use Rattle.deck.proofs.OpenLaws.{accepted-deck}
@@ -58,27 +56,12 @@ returns-in_err-report c =
     let p = err_from_is_err_and c.from_residual-in_err-report.result c.from_residual-in_err-report.ensures.1 in
     rw (p.1, p.2) (run-refused a.deck.now a.query.now _ d.0 d.1 z _ _ (zeros-buffers c.new-lists.ensures.answers c.new-lists.ensures.store c.new-lists.ensures.scratch) _ c.in_err-report.ensures, search rules)
 
-pub put_listing-requires-clause-room : goal.put_listing-requires-clause-room
-put_listing-requires-clause-room c =
-    let o = c.new-out.ensures in
-    (omega (arith, c.run.auto.answers), omega (arith, o.start, ap length o.bytes, c.told-out, c.run.auto.answers))
-
-pub put_listing-requires-clause-shown : goal.put_listing-requires-clause-shown
-put_listing-requires-clause-shown c =
-    let s = shown (goal.at.put_listing-requires-clause-shown c).In_ok-report in
+pub put_run-requires : goal.put_run-requires
+put_run-requires c =
+    let s = shown (goal.at.put_run-requires c).In_ok-report in
     (s.0, rw (c.symbols.ensures ∙ ap symbol_words c.in_ok-opened.ensures.words) s.2)
-
-pub shape_of-out : goal.shape_of-out
-shape_of-out c =
-    let s = shown (goal.at.shape_of-out c).In_ok-report in
-    let a = c.put_listing.ensures.adds s.0 (rw (c.symbols.ensures ∙ ap symbol_words c.in_ok-opened.ensures.words) s.2) in
-    search (rules, c.new-out.ensures.same_reference, a.same_reference)
 
 pub returns : goal.returns
 returns c =
     let s = shown (goal.at.returns c).In_ok-report in
-    let o = c.new-out.ensures in
-    let a = c.put_listing.ensures.adds s.0 (rw (c.symbols.ensures ∙ ap symbol_words c.in_ok-opened.ensures.words) s.2) in
-    rw s.1
-    (put-printed (put_at_start o.bytes o.start a (search rules))
-    (omega (arith, a.put.place, c.put_listing.ensures.short, o.start, c.told-out, c.run.auto.answers)))
+    rw s.1 (c.put_run.ensures s.0 (rw (c.symbols.ensures ∙ ap symbol_words c.in_ok-opened.ensures.words) s.2))

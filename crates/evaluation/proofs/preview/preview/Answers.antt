@@ -1,7 +1,6 @@
 -- `preview`: a deck or a clause that is refused is, and over the copy the run is what is returned and left.
-use lib.ListN.{length}
 use Rattle.std.proofs.lemmas.Result.{err_from_is_err_and}
-use Rattle.rules.specs.Preview.{open_copy, preview_on}
+use Rattle.rules.specs.Preview.{preview_on}
 use Rattle.evaluation.specs.Results.{slices}
 use Rattle.evaluation.proofs.RunLaws.{gives-refused}
 use Rattle.evaluation.proofs.PreviewLaws.{copy-refused, copy-ran}
