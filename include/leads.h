@@ -51,7 +51,7 @@
  * A length is a number of words, or of bytes for text. A pointer may be anything where its length is 0, but not null; nor may a pointer to
  * a result be null. The slices must not overlap.
  *
- * Nothing is allocated: tables stand on the stack. A run has some 100 KiB of them, and so has reading a text; beside them a run recurses over its
+ * Nothing is allocated: tables stand on the stack. A run has some 100 KiB of them, and reading a text up to 350; beside them a run recurses over its
  * levels, 33 at most, and over terms, some 1,300 deep at most.
  */
 #ifndef LEADS_H

@@ -21,3 +21,7 @@ front_bytes None xs = maybe.none
 abbrev pub TakesFrom : {F : Type 0} → (F → Option (List ℕ)) → Option F → Option F → maybe.Option (List ℕ) → Type 0
 TakesFrom remaining None new bytes = bytes ≡ maybe.none
 TakesFrom remaining (Some f) new bytes = IsSomeAnd new (λ g. (xs : List ℕ) × (bytes ≡ maybe.some xs) × Consumes (remaining f) (remaining g) xs)
+
+-- The same of a file that was then closed.
+abbrev pub TookFrom : {F : Type 0} → (F → Option (List ℕ)) → Option F → maybe.Option (List ℕ) → Type 0
+TookFrom {F} remaining file bytes = (closed : Option F) × TakesFrom remaining file closed bytes

@@ -5,14 +5,14 @@
 
 ghost use Rattle.std.specs.Prelude.{◌≡◌, ◌≤◌, min, length, take, IsNone, IfSome};
 ghost use Rattle.std.specs.Io.KnownBytes.{Consumes};
-ghost use Rattle.bytes_io.specs.Prefix.{IsPrefixLen, file_bytes, front_bytes, TakesFrom};
+ghost use Rattle.bytes_io.specs.Prefix.{IsPrefixLen, file_bytes, front_bytes, TakesFrom, TookFrom};
 
 use std::fs;
 use std::io::{Read, Write};
 use std::rt::Files;
 
 // Reads until `bytes` is full, the input ends or a read fails. Returns how many bytes stand at the start of `bytes`: those that were taken from the input.
-// A number, so that what `bytes` is afterwards can be said (d), as in `read_file`; `taken` and `contents` lend the bytes themselves.
+// A number, so that what `bytes` is afterwards can be said (d), as in `read_file` and `contents`; `taken` and `first_bytes` lend the bytes themselves.
 pub fn read_full<R: Read>(from: &mut R, bytes: &mut [u8]) -> usize
     ensures in_bounds { IsPrefixLen result bytes.new }
     ensures taken { Consumes (R.remaining from.old) (R.remaining from.new) (take result bytes.new) }
@@ -48,12 +48,22 @@ pub fn read_file<F: Read>(file: &mut Option<F>, bytes: &mut [u8]) -> Option<usiz
     Some(read_full(open, bytes))
 }
 
-// The bytes that `read_file` takes from the file.
-pub fn contents<'a, F: Read>(file: &mut Option<F>, bytes: &'a mut [u8]) -> Option<&'a [u8]>
-    ensures in_bounds { IfSome result (λ taken. length taken.now ≤ length bytes.old) }
-    ensures taken { TakesFrom F.remaining file.old file.new (file_bytes result) }
+// Reads the file, if it is open, in the same way, and closes it.
+pub fn contents<F: Read + Drop>(file: Option<F>, bytes: &mut [u8]) -> Option<usize>
+    ensures in_bounds { IfSome result (λ n. IsPrefixLen n bytes.new) }
+    ensures taken { TookFrom F.remaining file (front_bytes result bytes.new) }
+    ensures none { IsNone file → bytes.new ≡ bytes.old }
 {
-    let n = read_file(file, bytes)?;
+    let mut file = file;
+    read_file(&mut file, bytes)
+}
+
+// The bytes that `contents` takes from the file, which is closed when they are lent.
+pub fn first_bytes<'a, F: Read + Drop>(file: Option<F>, bytes: &'a mut [u8]) -> Option<&'a [u8]>
+    ensures in_bounds { IfSome result (λ taken. length taken.now ≤ length bytes.old) }
+    ensures taken { TookFrom F.remaining file (file_bytes result) }
+{
+    let n = contents(file, bytes)?;
     Some(&bytes[..n])
 }
 
@@ -65,8 +75,11 @@ pub fn count(most: usize, bytes: &[u8]) -> usize
     most.min(bytes.len())
 }
 
-// Writes the bytes to a file; one that could not be written whole is removed.
+// Writes the bytes to a file, if there are any; one that could not be written whole is removed.
 pub fn keep(rt: &impl Files, path: &str, bytes: &[u8]) {
+    if bytes.is_empty() {
+        return;
+    }
     if let Ok(mut file) = fs::create(rt, path) {
         if file.write_all(bytes).is_err() {
             let _ = fs::remove_file(rt, path);
@@ -76,7 +89,7 @@ pub fn keep(rt: &impl Files, path: &str, bytes: &[u8]) {
 
 #[cfg(test)]
 mod tests {
-    use super::{contents, count, read_file, read_full, taken};
+    use super::{contents, count, first_bytes, read_file, read_full, taken};
     use std::io::{self, Error, ErrorKind, Read};
 
     // A byte at a time, so many, and then a read that fails.
@@ -144,9 +157,22 @@ mod tests {
     fn file_after_its_start(rt: HostRuntime) {
         let mut file: Option<&[u8]> = Some(b"abcde");
         let mut bytes = [0u8; 2];
-        let first = contents(&mut file, &mut bytes);
-        assert!(rt; first == Some(b"ab".as_slice()), "{first:?}");
+        let n = read_file(&mut file, &mut bytes);
+        assert!(rt; n == Some(2), "{n:?} bytes");
+        assert!(rt; bytes[1] == b'b', "{bytes:?}");
         assert!(rt; file == Some(b"cde".as_slice()), "{file:?}");
+    }
+
+    // The file is passed, and what was taken from it is lent.
+    #[test]
+    fn file_closed(rt: HostRuntime) {
+        let mut bytes = [0u8; 2];
+        let first = first_bytes(Some(b"abcde".as_slice()), &mut bytes);
+        assert!(rt; first == Some(b"ab".as_slice()), "{first:?}");
+        let missing: Option<Failing> = None;
+        let n = contents(missing, &mut bytes);
+        assert!(rt; n.is_none(), "{n:?} bytes");
+        assert!(rt; bytes[0] == b'a', "{bytes:?}");
     }
 
     #[test]

@@ -58,14 +58,15 @@ impl<F: Read> CaseFile<F> {
         &room[..n]
     }
 
-    // Prints the line that names a case.
+    // Prints the line that names a case, of as many bytes as the number before it says; those that the file has not are 0.
     pub fn title(&mut self, rt: &impl Print) -> io::Result<()>
         ensures taken { (line : List ℕ) × (length line ≤ 100) × TakesPiece F.remaining self.old.width self.old.file self.new.file line }
         ensures width { self.new.width ≡ self.old.width }
     {
         let mut room = [0u8; 100];
-        let line = self.given(&mut room);
-        rt.write_all(line)
+        let size = count(self.number(), &room);
+        taken(&mut self.file, &mut room[..size]);
+        rt.write_all(&room[..size])
     }
 
     // Does the same with each case. The file begins with their number.

@@ -134,7 +134,7 @@ fn put_child(
             if store.len() < to {
                 return Some(to);
             }
-            store[end..to].copy_from_slice(&child[..w]);
+            words::copy(&child[..w], &mut store[end..to]);
             Some(to)
         }
         Resolved::Oversized => None,

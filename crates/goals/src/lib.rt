@@ -61,7 +61,7 @@ pub fn remove(store: &mut [u16], held: usize, s: usize, e: usize)
 {
     let d = e - s;
     let length = usize::from(store[held - 1]);
-    store.copy_within(held - 2 - s..held, held - 2 - s - d);
+    words::move_down(store, held - 2 - s, held, d);
     store[held - d - 1] = (length - d) as u16;
 }
 

@@ -5,34 +5,34 @@ ghost use Rattle.std.specs.Prelude.{ℕ, List, OnOk};
 ghost use Rattle.std.proofs.Math.Option.{Option};
 ghost use Rattle.std.specs.Io.KnownBytes.{Appends, Consumes};
 ghost use Rattle.rules.specs.Program.{program};
-ghost use Rattle.bytes_io.specs.Prefix.{TakesFrom};
+ghost use Rattle.bytes_io.specs.Prefix.{TookFrom};
 
-use bytes_io::{contents, taken};
+use bytes_io::{first_bytes, taken};
 use std::io::{Read, Write};
 use std::{fs, io};
 
 fn main(rt: HostRuntime) -> io::Result<()> {
-    let mut file = fs::open(&rt, "survey.dck").ok();
-    answer(&mut file, &mut rt.stdin(), &mut io::writer(&rt))
+    let file = fs::open(&rt, "survey.dck").ok();
+    answer(file, &mut rt.stdin(), &mut io::writer(&rt))
 }
 
 // Reads the deck from the file, if it is open, and the query from the input, and writes the listing.
 // No more is read than it takes to tell that there is too much.
 // No function for all programs takes the rule's function: this contract would stay here, and that function would need one as long, over any rule.
-fn answer<D: Read, Q: Read, W: Write>(
-    file: &mut Option<D>,
+fn answer<D: Read + Drop, Q: Read, W: Write>(
+    file: Option<D>,
     input: &mut Q,
     to: &mut W,
 ) -> io::Result<()>
     ensures { OnOk result ((deck : Option (List ℕ)) × (query : List ℕ)
-        × TakesFrom D.remaining file.old file.new deck
+        × TookFrom D.remaining file deck
         × Consumes (Q.remaining input.old) (Q.remaining input.new) query
         × Appends (W.contents to.old) (W.contents to.new) (program deck query)) }
 {
     let mut deck_room = [0u8; 32770];
     let mut query_room = [0u8; 1002];
     let mut out = [0u8; 65605];
-    let deck = contents(file, &mut deck_room);
+    let deck = first_bytes(file, &mut deck_room);
     let query = taken(input, &mut query_room);
     let n = program::printed(deck, query, &mut out);
     to.write_all(&out[..n])

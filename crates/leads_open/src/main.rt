@@ -6,22 +6,22 @@ ghost use Rattle.std.specs.Prelude.{ℕ, List, OnOk};
 ghost use Rattle.std.proofs.Math.Option.{Option};
 ghost use Rattle.std.specs.Io.KnownBytes.{Appends, Consumes};
 ghost use Rattle.rules.specs.CarryProgram.{budget_from, open_run, kept_listing};
-ghost use Rattle.bytes_io.specs.Prefix.{TakesFrom};
+ghost use Rattle.bytes_io.specs.Prefix.{TookFrom};
 
-use bytes_io::{contents, keep, taken};
+use bytes_io::{first_bytes, keep, taken};
 use std::io::{Read, Write};
 use std::rt::Files;
 use std::{fs, io};
 
 fn main(rt: HostRuntime) -> io::Result<()> {
-    let mut file = fs::open(&rt, "survey.dck").ok();
-    let mut barred = fs::open(&rt, "bars").ok();
-    let mut given = fs::open(&rt, "budget").ok();
+    let file = fs::open(&rt, "survey.dck").ok();
+    let barred = fs::open(&rt, "bars").ok();
+    let given = fs::open(&rt, "budget").ok();
     answer(
         &rt,
-        &mut file,
-        &mut barred,
-        &mut given,
+        file,
+        barred,
+        given,
         &mut rt.stdin(),
         &mut io::writer(&rt),
     )
@@ -30,18 +30,18 @@ fn main(rt: HostRuntime) -> io::Result<()> {
 // Reads the deck, the member's list and the budget from their files, if they are open, and the query from the input; keeps the goals left, and writes the listing.
 // No more is read than it takes to tell that there is too much; of a budget 32 bytes.
 // No function for all programs takes the rule's function: this contract would stay here, and that function would need one as long, over any rule.
-fn answer<D: Read, B: Read, L: Read, Q: Read, W: Write>(
+fn answer<D: Read + Drop, B: Read + Drop, L: Read + Drop, Q: Read, W: Write>(
     rt: &impl Files,
-    file: &mut Option<D>,
-    barred: &mut Option<B>,
-    given: &mut Option<L>,
+    file: Option<D>,
+    barred: Option<B>,
+    given: Option<L>,
     input: &mut Q,
     to: &mut W,
 ) -> io::Result<()>
     ensures { OnOk result ((deck : Option (List ℕ)) × (bars : Option (List ℕ)) × (limit : Option (List ℕ)) × (query : List ℕ)
-        × TakesFrom D.remaining file.old file.new deck
-        × TakesFrom B.remaining barred.old barred.new bars
-        × TakesFrom L.remaining given.old given.new limit
+        × TookFrom D.remaining file deck
+        × TookFrom B.remaining barred bars
+        × TookFrom L.remaining given limit
         × Consumes (Q.remaining input.old) (Q.remaining input.new) query
         × Appends (W.contents to.old) (W.contents to.new)
         (kept_listing (open_run deck query bars (budget_from limit)))) }
@@ -52,9 +52,9 @@ fn answer<D: Read, B: Read, L: Read, Q: Read, W: Write>(
     let mut limit_room = [0u8; 32];
     let mut out = [0u8; 65605];
     let mut left = [0u8; 32792];
-    let deck = contents(file, &mut deck_room);
-    let bars = contents(barred, &mut bars_room);
-    let limit = contents(given, &mut limit_room);
+    let deck = first_bytes(file, &mut deck_room);
+    let bars = first_bytes(barred, &mut bars_room);
+    let limit = first_bytes(given, &mut limit_room);
     let query = taken(input, &mut query_room);
     let outputs = carry_program::open_printed(deck, query, bars, limit, &mut out, &mut left);
     if let Some(g) = outputs.goals {

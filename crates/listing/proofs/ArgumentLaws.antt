@@ -1,13 +1,12 @@
 -- What is left of the text of a symbol while its arguments are printed.
 use Prim.Native.Nat.{ℕ, suc, ◌+◌, ◌≤◌}
-use mathlib.Core.Path.{◌≡◌, refl, ap, ◌∙◌}
+use mathlib.Core.Path.{◌≡◌, refl, ap, sym, ◌∙◌}
 use mathlib.Core.List.{List, [], ◌∷◌, ◌++◌}
 use native.Mathlib.Omega.{arith}
 use lib.ListN.{drop}
 use lib.Seq.{drop-drop}
 use Rattle.rules.specs.Terms.{app, Terms, nil, cons, count, size, sizes}
 use Rattle.rules.specs.Listing.{decimal}
-use Rattle.signature.specs.Symbols.{arity_at}
 use Rattle.listing.specs.declared.output.Output.{Output}
 use Rattle.listing.specs.Put.{Adds}
 use Rattle.listing.specs.Standing.{TermsAt, ArgumentsAt, show_term, show_more, Walked}
@@ -24,10 +23,9 @@ pub record ArgumentsLeft (words : List ℕ) (sign arity : ℕ) (before : Output)
   pub left : Left before whole out (show_more sign arguments (41 ∷ []))
 
 -- The symbol's arity is not 0.
-module _ {words : List ℕ} (sign : ℕ) {symbol s arity : ℕ} (r : arity ≡ arity_at words s) (e : s ≡ symbol) (some : arity ≡ 0 → ⊥)
-    {cells : List ℕ} (ts : Terms) (a : ArgumentsAt words cells symbol ts) where
+module _ {words : List ℕ} (sign symbol : ℕ) {arity : ℕ} (some : arity ≡ 0 → ⊥) {cells : List ℕ} (ts : Terms) (a : ArgumentsAt words cells arity ts) where
   counts : arity ≡ count ts
-  counts = r ∙ ap (arity_at words) e ∙ a.arity
+  counts = sym a.many
 
   pub first : Split words cells ts
   first = split words cells ts a.arguments (λ z. some (counts ∙ ap count z))

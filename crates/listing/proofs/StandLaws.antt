@@ -12,6 +12,7 @@ use Rattle.rules.specs.Decks.{read_symbol, read_all}
 use Rattle.rules.specs.Listing.{decimal}
 use Rattle.rules.proofs.CellLaws.{Small, after-term, other-terms, cell-symbol, written_as, drop-terms}
 use Rattle.signature.proofs.SymbolLaws.{Word, symbol-known}
+use Rattle.signature.specs.Symbols.{symbol_count, arity_at}
 use Rattle.listing.specs.Standing.{TermsAt, TermAt, ArgumentsAt, show_term}
 
 functor-cell : (f k : ℕ) (o : Option Symbol) → symbol_cell f o ≡ function f k → o ≡ some (functor k)
@@ -50,10 +51,22 @@ module _ (words cells : List ℕ) where
     small = after-term Small t (vars_terms ts []) a.small;
   }
 
+-- A symbol that is known, and its arguments.
+pub record SymbolAt (words cells : List ℕ) (symbol : ℕ) (ts : Terms) : Type 0 where
+  pub known : symbol < symbol_count words
+  pub arity : arity_at words symbol ≡ count ts
+  pub arguments : TermsAt words cells ts
+
+-- The arity that was read is the number of its arguments.
+pub with-arity :
+    {words cells : List ℕ} {symbol s arity : ℕ} {ts : Terms} → arity ≡ arity_at words s → s ≡ symbol → SymbolAt words cells symbol ts
+    → ArgumentsAt words cells arity ts
+with-arity {words} r e a = record { many = sym (r ∙ ap (arity_at words) e ∙ a.arity); arguments = a.arguments }
+
 -- What is printed of the term in front, by its first cell.
 pub record Functor (words others : List ℕ) (cell : ℕ) (t : Term) : Type 0 where
   pub arguments : Terms
-  pub standing : ArgumentsAt words others cell arguments
+  pub standing : SymbolAt words others cell arguments
   pub term : t ≡ app cell arguments
   pub whole : size t ≡ suc (sizes arguments)
 

@@ -1,5 +1,5 @@
 -- Terms whose cells a slice of words begins with, and what the walks that print them promise.
-use Rattle.std.specs.Prelude.{ℕ, ◌<◌, ◌≤◌, ◌≡◌, List, [], ◌∷◌, drop}
+use Rattle.std.specs.Prelude.{ℕ, ◌≤◌, ◌≡◌, List, [], ◌∷◌, drop}
 use Rattle.std.proofs.Math.Option.{some}
 use Rattle.rules.specs.Terms.{Term, var, app, Terms, nil, cons, count, size, sizes, vars_terms}
 use Rattle.rules.specs.Syntax.{Symbol}
@@ -7,7 +7,6 @@ use Rattle.rules.specs.Cells.{write_terms}
 use Rattle.rules.specs.Decks.{read_symbol, read_all}
 use Rattle.rules.specs.WellFormed.{All, WfTerms}
 use Rattle.rules.specs.Listing.{decimal}
-use Rattle.signature.specs.Symbols.{symbol_count, arity_at}
 use Rattle.listing.specs.declared.output.Output.{Output}
 use Rattle.listing.specs.declared.terms.Printer.{Printer}
 use Rattle.listing.specs.Put.{Fits, Adds}
@@ -43,10 +42,9 @@ pub record Walked (out : Output) (cells : List ℕ) (text : List ℕ) (count : �
   pub adds : Adds out text after
   pub passed : others ≡ drop count cells
 
--- A symbol's arguments.
-pub record ArgumentsAt (symbol_words cells : List ℕ) (symbol : ℕ) (ts : Terms) : Type 0 where
-  pub known : symbol < symbol_count symbol_words
-  pub arity : arity_at symbol_words symbol ≡ count ts
+-- A symbol's arguments, as many as its arity.
+pub record ArgumentsAt (symbol_words cells : List ℕ) (arity : ℕ) (ts : Terms) : Type 0 where
+  pub many : count ts ≡ arity
   pub arguments : TermsAt symbol_words cells ts
 
 -- Room for the text of what the cells begin with, and that this text is what is printed, whatever they begin with.
@@ -58,9 +56,9 @@ module _ (p : Printer) (cells : List ℕ) where
   TermPrinted out after others =
       (t : Term) → TermAt p.symbols.now cells t → Walked out cells (show_term p.sign t []) (size t) after others
 
-  abbrev pub AppliedFits : ℕ → Output → Type 0
-  AppliedFits symbol out = (ts : Terms) × ArgumentsAt p.symbols.now cells symbol ts × Fits out (show_term p.sign (app symbol ts) [])
+  abbrev pub AppliedFits : ℕ → ℕ → Output → Type 0
+  AppliedFits symbol arity out = (ts : Terms) × ArgumentsAt p.symbols.now cells arity ts × Fits out (show_term p.sign (app symbol ts) [])
 
-  abbrev pub AppliedPrinted : ℕ → Output → Output → List ℕ → Type 0
-  AppliedPrinted symbol out after others =
-      (ts : Terms) → ArgumentsAt p.symbols.now cells symbol ts → Walked out cells (show_term p.sign (app symbol ts) []) (sizes ts) after others
+  abbrev pub AppliedPrinted : ℕ → ℕ → Output → Output → List ℕ → Type 0
+  AppliedPrinted symbol arity out after others =
+      (ts : Terms) → ArgumentsAt p.symbols.now cells arity ts → Walked out cells (show_term p.sign (app symbol ts) []) (sizes ts) after others

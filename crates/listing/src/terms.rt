@@ -34,17 +34,17 @@ impl Printer<'_> {
         if VARIABLE <= cell {
             return out.put_prefixed(self.sign, u32::from(cell - VARIABLE));
         }
-        self.put_applied(out, cells, cell);
+        let arity = signature::arity(self.symbols, usize::from(cell));
+        self.put_applied(out, cells, cell, arity);
     }
 
     // Prints a symbol as s and its number, and the arguments, as many as its arity, whose cells are at the front, in brackets.
     #[cycle(put_applied_put_term)]
-    pub fn put_applied(&self, out: &mut Output, cells: &mut &[u16], symbol: u16)
-        requires { AppliedFits self.now cells.old.now symbol out.old }
-        ensures { AppliedPrinted self.now cells.old.now symbol out.old out.new cells.new.now }
+    pub fn put_applied(&self, out: &mut Output, cells: &mut &[u16], symbol: u16, arity: usize)
+        requires { AppliedFits self.now cells.old.now symbol arity out.old }
+        ensures { AppliedPrinted self.now cells.old.now symbol arity out.old out.new cells.new.now }
     {
         out.put_prefixed(b's', u32::from(symbol));
-        let arity = signature::arity(self.symbols, usize::from(symbol));
         if arity == 0 {
             return;
         }

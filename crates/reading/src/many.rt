@@ -15,6 +15,7 @@ use text::readable::Readable;
 use uses::batch::misused_in_batches;
 
 // Why such a text is not read into a list of so many words.
+#[inline(never)]
 pub fn error(text: Readable, words: usize) -> ReadError
     requires { 4096 < length (text_declarations text.text.now) }
     ensures { (before : List ℕ) → length before ≡ words → DidRead text.entry.text.now before (Err result) before }

@@ -12,7 +12,8 @@ use text::names::Names;
 use text::readable::Readable;
 use uses::checking::misused_in_table;
 
-// A text in the grammar.
+// A text in the grammar. A call of its own, as read_named and many::error: so its table is on the stack only while it is wanted.
+#[inline(never)]
 pub fn read_items(text: Readable, deck: &mut [u16]) -> Result<usize, ReadError>
     ensures { DidRead text.entry.text.now deck.old result deck.new }
 {
@@ -25,6 +26,7 @@ pub fn read_items(text: Readable, deck: &mut [u16]) -> Result<usize, ReadError>
 }
 
 // Its names are declared once each.
+#[inline(never)]
 fn read_named(names: DeclaredNames, deck: &mut [u16]) -> Result<usize, ReadError>
     ensures { DidRead names.entry.all.text.text.now deck.old result deck.new }
 {

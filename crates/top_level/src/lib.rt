@@ -374,7 +374,7 @@ pub fn first(query: &[u16], store: &mut [u16]) -> usize
     for i in 0..n {
         store[2 + i] = (VARIABLE + i) as u16;
     }
-    store[2 + n..held].copy_from_slice(query);
+    words::copy(query, &mut store[2 + n..held]);
     store[..held].reverse();
     held
 }

@@ -13,7 +13,8 @@ use Rattle.rules.specs.WellFormed.{All, WfTerms}
 use Rattle.text_rules.specs.TextWriter.{literal_text}
 use Rattle.rules.proofs.CellLaws.{Small, after-terms, other-terms, cell-symbol, cell-negated, written_as, drop-terms}
 use Rattle.signature.proofs.SymbolLaws.{Word, symbol-known}
-use Rattle.listing.specs.Standing.{TermsAt, ArgumentsAt, show_term}
+use Rattle.listing.specs.Standing.{TermsAt, show_term}
+use Rattle.listing.proofs.StandLaws.{SymbolAt}
 use Rattle.writing.specs.Literals.{LiteralsAt}
 use Rattle.writing.proofs.TextParts.{positive-text, negative-text}
 
@@ -45,7 +46,7 @@ negative-arity ws S p k e h =
 -- The literal in front: its predicate's number, what stands before it, its arguments and the literals after it.
 pub record Here (words others : List ℕ) (predicate : ℕ) (mark : List ℕ) (l : Literal) (ls : List Literal) : Type 0 where
   pub terms : Terms
-  pub atom : ArgumentsAt words others predicate terms
+  pub atom : SymbolAt words others predicate terms
   pub text : literal_text l [] ≡ mark ++ show_term 95 (app predicate terms) []
   pub after : LiteralsAt words (drop (sizes terms) others) ls
 

@@ -48,7 +48,10 @@ pub fn put_literal(out: &mut Output, cells: &mut &[u16], symbols: &[u16])
     };
     if NEGATED <= cell {
         out.put(b"~");
-        return terms.put_applied(out, cells, cell - NEGATED);
+        let predicate = cell - NEGATED;
+        let arity = signature::arity(symbols, usize::from(predicate));
+        return terms.put_applied(out, cells, predicate, arity);
     }
-    terms.put_applied(out, cells, cell);
+    let arity = signature::arity(symbols, usize::from(cell));
+    terms.put_applied(out, cells, cell, arity);
 }

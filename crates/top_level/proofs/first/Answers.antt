@@ -10,7 +10,7 @@ use Rattle.words.proofs.Reverse.{rev, front_reversed}
 use Rattle.words.proofs.Sets.{put_sets}
 use Rattle.top_level.proofs.FirstLaws.{numbers, numbers_more, query-cells, first_short, first-held}
 use Rattle.top_level.proofs.first.Goals as goal
-use Rattle.top_level.proofs.first.Goals.{After-variables-n, At-loop-i, After-copy_from_slice}
+use Rattle.top_level.proofs.first.Goals.{After-variables-n, At-loop-i, After-copy}
 
 -- Of the query that is known to be there.
 short : (c : goal.After-variables-n) → 2 + c.variables-n.result + length c.args.query.now ≤ 1024
@@ -60,31 +60,31 @@ overflow_add-n c = omega (arith, short (goal.at.overflow_add-n c).After-variable
 pub offset_bounds-store-n : goal.offset_bounds-store-n
 offset_bounds-store-n c = omega (arith, short (goal.at.offset_bounds-store-n c).After-variables-n)
 
-pub slice_bounds-copy_from_slice-end : goal.slice_bounds-copy_from_slice-end
-slice_bounds-copy_from_slice-end c = omega (arith, short (goal.at.slice_bounds-copy_from_slice-end c).After-variables-n, same (goal.at.slice_bounds-copy_from_slice-end c).At-loop-i)
+pub slice_bounds-copy-end : goal.slice_bounds-copy-end
+slice_bounds-copy-end c = omega (arith, short (goal.at.slice_bounds-copy-end c).After-variables-n, same (goal.at.slice_bounds-copy-end c).At-loop-i)
 
 -- The query is copied behind the variables.
-copied : (c : goal.After-copy_from_slice) →
+copied : (c : goal.After-copy) →
     let n = c.variables-n.result in
     let held = 2 + n + length c.args.query.now in
     held ≤ length c.loop-i.store
-    → put_mid (2 + n) (held - (2 + n)) c.loop-i.store c.copy_from_slice.new.self ≡ sets c.loop-i.store (2 + n) c.args.query.now
+    → put_mid (2 + n) (held - (2 + n)) c.loop-i.store c.copy.new.to ≡ sets c.loop-i.store (2 + n) c.args.query.now
 copied c h =
     let n = c.variables-n.result in
     let held = 2 + n + length c.args.query.now in
-    rw c.copy_from_slice.ensures.after (put_sets c.loop-i.store c.args.query.now (2 + n) (held - (2 + n)) (omega arith) (omega arith))
+    rw c.copy.ensures (put_sets c.loop-i.store c.args.query.now (2 + n) (held - (2 + n)) (omega arith) (omega arith))
 
 pub slice_bounds-reverse-end : goal.slice_bounds-reverse-end
 slice_bounds-reverse-end c =
     let at = goal.at.slice_bounds-reverse-end c in
     let h : 2 + c.variables-n.result + length c.args.query.now ≤ length c.loop-i.store = omega (arith, short at.After-variables-n, same at.At-loop-i) in
-    omega (arith, h, ap length (copied at.After-copy_from_slice h), length-sets c.loop-i.store (2 + c.variables-n.result) c.args.query.now)
+    omega (arith, h, ap length (copied at.After-copy h), length-sets c.loop-i.store (2 + c.variables-n.result) c.args.query.now)
 
 pub slice_bounds-reverse-end-2 : goal.slice_bounds-reverse-end-2
 slice_bounds-reverse-end-2 c =
     let at = goal.at.slice_bounds-reverse-end-2 c in
     let h : 2 + c.variables-n.result + length c.args.query.now ≤ length c.loop-i.store = omega (arith, short at.After-variables-n, same at.At-loop-i) in
-    sym (length-take-le _ _ (omega (arith, h, ap length (copied at.After-copy_from_slice h), length-sets c.loop-i.store (2 + c.variables-n.result) c.args.query.now)))
+    sym (length-take-le _ _ (omega (arith, h, ap length (copied at.After-copy h), length-sets c.loop-i.store (2 + c.variables-n.result) c.args.query.now)))
 
 pub returns : goal.returns
 returns c =
@@ -99,5 +99,5 @@ returns c =
     first-held h n held (c.variables-n.ensures ar 0 S _ (query-cells h)) refl s _ c.requires.room
     (front_reversed held _ c.reverse.new.self c.reverse.ensures.after
     ∙ ap (rev 0 held)
-    (copied at.After-copy_from_slice (omega (arith, short at.After-variables-n, same at.At-loop-i))
+    (copied at.After-copy (omega (arith, short at.After-variables-n, same at.At-loop-i))
     ∙ ap (λ (r : List ℕ). sets r (2 + n) words) (l.invariant ∙ ap (λ (k : ℕ). sets (set (set s 0 held) 1 n) 2 (numbers k)) all)))

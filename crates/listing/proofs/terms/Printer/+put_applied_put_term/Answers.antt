@@ -1,15 +1,14 @@
 -- A term and a symbol with its arguments: whatever the cells begin with is what is printed.
-use mathlib.Core.Path.{refl, sym, ap, ◌∙◌}
+use mathlib.Core.Path.{refl, ap, ◌∙◌}
 use mathlib.Core.List.{[], ◌∷◌}
 use native.Mathlib.Omega.{arith}
 use lib.ListN.{length, length-drop}
 use Rattle.rules.specs.Terms.{size}
 use Rattle.rules.specs.Listing.{decimal}
-use Rattle.signature.specs.Symbols.{arity_at}
 use Rattle.listing.specs.Standing.{show_term}
 use Rattle.listing.proofs.PutLaws.{all_left, left-room, rest-room, put_some, put_last}
 use Rattle.listing.proofs.PrintLaws.{no_arguments, name-apart}
-use Rattle.listing.proofs.StandLaws.{term-inside, variable-text, functor-text, after-cell}
+use Rattle.listing.proofs.StandLaws.{term-inside, variable-text, functor-text, after-cell, with-arity}
 use Rattle.listing.proofs.ArgumentLaws.{first, named, begun, next, comma, passed_one, closing}
 use Rattle.listing.proofs.terms.Printer.+put_applied_put_term.Goals as goal
 
@@ -19,27 +18,27 @@ put_applied-put_prefixed-requires t c =
 
 pub put_applied-returns-then-arity-eq0 : goal.put_applied-returns-then-arity-eq0
 put_applied-returns-then-arity-eq0 t c = λ ts a.
-    let z = no_arguments c.args.self.now.sign c.args.symbol ts (sym a.arity ∙ ap (arity_at c.args.self.now.symbols.now) (sym c.from-2.ensures) ∙ sym c.arity-arity.ensures ∙ c.if-arity-eq0.true) in
+    let z = no_arguments c.args.self.now.sign c.args.symbol ts (a.many ∙ c.if-arity-eq0.true) in
     record { adds = rw (z.0, ← c.from.ensures) c.put_prefixed.ensures; passed = rw z.1 refl }
 
 pub put_applied-put-requires : goal.put_applied-put-requires
 put_applied-put-requires t c =
     left-room (40 ∷ []) _
-    (named c.args.self.now.sign c.arity-arity.ensures c.from-2.ensures c.if-arity-eq0.false c.requires.0 c.requires.1 (rw c.from.ensures at c.put_prefixed.ensures)) c.requires.2
+    (named c.args.self.now.sign c.args.symbol c.if-arity-eq0.false c.requires.0 c.requires.1 (rw c.from.ensures at c.put_prefixed.ensures)) c.requires.2
 
 pub put_applied-put_term-requires : goal.put_applied-put_term-requires
 put_applied-put_term-requires t c =
-    let n = first c.args.self.now.sign c.arity-arity.ensures c.from-2.ensures c.if-arity-eq0.false c.requires.0 c.requires.1 in
-    let l = named c.args.self.now.sign c.arity-arity.ensures c.from-2.ensures c.if-arity-eq0.false c.requires.0 c.requires.1 (rw c.from.ensures at c.put_prefixed.ensures) in
+    let n = first c.args.self.now.sign c.args.symbol c.if-arity-eq0.false c.requires.0 c.requires.1 in
+    let l = named c.args.self.now.sign c.args.symbol c.if-arity-eq0.false c.requires.0 c.requires.1 (rw c.from.ensures at c.put_prefixed.ensures) in
     (omega (arith, c.decreases), (n.first, n.here, left-room (show_term c.args.self.now.sign n.first []) _ (put_some l c.put.ensures) c.requires.2))
 
 pub put_applied-loop-i-init : goal.put_applied-loop-i-init
 put_applied-loop-i-init t c = (
-  let n = first c.args.self.now.sign c.arity-arity.ensures c.from-2.ensures c.if-arity-eq0.false c.requires.0 c.requires.1 in
+  let n = first c.args.self.now.sign c.args.symbol c.if-arity-eq0.false c.requires.0 c.requires.1 in
       omega (arith, ap length (c.put_term.ensures n.first n.here).passed, length-drop (size n.first) c.args.cells.now.now),
   λ ts a.
-      let n = first c.args.self.now.sign c.arity-arity.ensures c.from-2.ensures c.if-arity-eq0.false ts a in
-      begun c.args.self.now.sign c.arity-arity.ensures c.from-2.ensures c.if-arity-eq0.false ts a (rw c.from.ensures at c.put_prefixed.ensures) c.put.ensures
+      let n = first c.args.self.now.sign c.args.symbol c.if-arity-eq0.false ts a in
+      begun c.args.self.now.sign c.args.symbol c.if-arity-eq0.false ts a (rw c.from.ensures at c.put_prefixed.ensures) c.put.ensures
       (c.put_term.ensures n.first n.here),
 )
 
@@ -84,13 +83,18 @@ put_term-returns-then-cell-ge-VARIABLE t c = λ u a.
     let v = variable-text _ _ _ c.next-cell.ensures c.args.self.now.sign u a c.if-cell-ge-VARIABLE.true in
     record { adds = rw (v.0, ← c.from.ensures) c.put_prefixed.ensures; passed = v.1 }
 
+pub put_term-arity-arity-requires : goal.put_term-arity-arity-requires
+put_term-arity-arity-requires t c =
+    let f = functor-text _ _ _ c.next-cell.ensures c.requires.0 c.requires.1 c.if-cell-ge-VARIABLE.false in
+    rw c.from-2.ensures f.standing.known
+
 pub put_term-put_applied-requires : goal.put_term-put_applied-requires
 put_term-put_applied-requires t c =
     let f = functor-text _ _ _ c.next-cell.ensures c.requires.0 c.requires.1 c.if-cell-ge-VARIABLE.false in
-    (omega (arith, c.decreases, ap length c.next-cell.ensures), (f.arguments, f.standing, rw f.term at c.requires.2))
+    (omega (arith, c.decreases, ap length c.next-cell.ensures), (f.arguments, with-arity c.arity-arity.ensures c.from-2.ensures f.standing, rw f.term at c.requires.2))
 
 pub put_term-returns : goal.put_term-returns
 put_term-returns t c = λ u a.
     let f = functor-text _ _ _ c.next-cell.ensures u a c.if-cell-ge-VARIABLE.false in
-    let w = c.put_applied.ensures f.arguments f.standing in
+    let w = c.put_applied.ensures f.arguments (with-arity c.arity-arity.ensures c.from-2.ensures f.standing) in
     record { adds = rw f.term w.adds; passed = w.passed ∙ after-cell c.next-cell.ensures f.whole }

@@ -11,7 +11,7 @@ use Rattle.listing.proofs.terms.Printer.+put_applied_put_term.Given as goal
 abbrev pub invariant-put_applied-loop-i : goal.invariant-put_applied-loop-i
 invariant-put_applied-loop-i l =
     (length l.cells.now ≤ length l.fn.cells.now)
-    × ((ts : Terms) → ArgumentsAt l.self.symbols.now l.fn.cells.now l.symbol ts
+    × ((ts : Terms) → ArgumentsAt l.self.symbols.now l.fn.cells.now l.arity ts
     → ArgumentsLeft l.self.symbols.now l.self.sign l.arity l.fn.out l.fn.cells.now (show_term l.self.sign (app l.symbol ts) []) (sizes ts) l._i l.out l.cells.now)
 
 abbrev pub decreases-put_applied : goal.decreases-put_applied
